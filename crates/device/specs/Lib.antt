@@ -1,3 +1,5 @@
 pub mod Blocks
-pub mod Images
 pub mod ImageLaws
+pub mod Images
+pub mod TrialLaws
+pub mod Trials
