@@ -53,7 +53,7 @@ module _ (bytes new : List ℕ) (b : ℕ) (within : b < length bytes / 512) (ful
       let n : length (take (512 * b) bytes ++ new) ≡ 512 * b + 512 = rw length-append (omega (arith, front-length)) in
       let rest = drop (512 * b + 512) bytes in
       let same : drop (512 * b + 512) (take (512 * b) bytes ++ (new ++ rest)) ≡ rest =
-          ap (drop (512 * b + 512)) (sym (append-assoc (take (512 * b) bytes) new rest)) ∙ drop-at (take (512 * b) bytes ++ new) rest (512 * b + 512) n in
+      ap (drop (512 * b + 512)) (sym (append-assoc (take (512 * b) bytes) new rest)) ∙ drop-at (take (512 * b) bytes ++ new) rest (512 * b + 512) n in
       part-back (take (512 * b) bytes ++ (new ++ rest)) bytes (512 * b + 512) i (omega arith) same
 
   -- a store at block b changes that block and nothing else
@@ -62,6 +62,7 @@ module _ (bytes new : List ℕ) (b : ℕ) (within : b < length bytes / 512) (ful
     where
       sizes : length (image-blocks (overwritten bytes b new)) ≡ length (set (image-blocks bytes) b (Block.readable new))
       sizes = image-size (overwritten bytes b new) ∙ ap (λ n. n / 512) overwritten-length ∙ sym (image-size bytes) ∙ sym (length-set (image-blocks bytes) b (Block.readable new))
+
       each : (i : ℕ) → i < length (image-blocks (overwritten bytes b new)) → block-at (image-blocks (overwritten bytes b new)) i ≡ block-at (set (image-blocks bytes) b (Block.readable new)) i
       each i h =
           let size = image-size (overwritten bytes b new) in
@@ -70,13 +71,13 @@ module _ (bytes new : List ℕ) (b : ℕ) (within : b < length bytes / 512) (ful
           let in-old : i < length bytes / 512 = rw (← long) in-new in
           let got = image-block (overwritten bytes b new) i in-new in
           let other : (i ≢ b) → part (overwritten bytes b new) i ≡ part bytes i → block-at (image-blocks (overwritten bytes b new)) i ≡ block-at (set (image-blocks bytes) b (Block.readable new)) i =
-              λ ne e. got ∙ ap Block.readable e ∙ sym (image-block bytes i in-old) ∙ sym (getD-set-other (image-blocks bytes) b i (Block.readable new) Block.unreadable ne) in
+          λ ne e. got ∙ ap Block.readable e ∙ sym (image-block bytes i in-old) ∙ sym (getD-set-other (image-blocks bytes) b i (Block.readable new) Block.unreadable ne) in
           ⊎-elim
           (λ (e : i ≡ b). let here : b < length (image-blocks bytes) = omega (arith, image-size bytes) in
-            got ∙ ap Block.readable (ap (part (overwritten bytes b new)) e ∙ part-same) ∙ sym (ap (block-at (set (image-blocks bytes) b (Block.readable new))) e ∙ getD-set-same (image-blocks bytes) b (Block.readable new) Block.unreadable here))
+          got ∙ ap Block.readable (ap (part (overwritten bytes b new)) e ∙ part-same) ∙ sym (ap (block-at (set (image-blocks bytes) b (Block.readable new))) e ∙ getD-set-same (image-blocks bytes) b (Block.readable new) Block.unreadable here))
           (⊎-elim
-            (λ (l : i < b). other (omega arith) (part-below i l))
-            (λ (g : b < i). other (omega arith) (part-above i g)))
+          (λ (l : i < b). other (omega arith) (part-below i l))
+          (λ (g : b < i). other (omega arith) (part-above i g)))
           (cases-order i b)
 
   put-part : (k : ℕ) → k ≡ 512 → putMid (512 * b) k bytes new ≡ overwritten bytes b new

@@ -1,2 +1,3 @@
 mod Images
+mod Skews
 mod Trials

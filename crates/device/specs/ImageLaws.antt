@@ -26,9 +26,9 @@ pub image-whole : (bytes : List ℕ) → Whole (image-blocks bytes)
 image-whole bytes b held is =
     ⊎-elim
     (λ (h : b < length bytes / 512). let e : Block.readable (part bytes b) ≡ Block.readable held = sym (image-block bytes b h) ∙ is in
-      let p : part bytes b ≡ held = cc in
-      ap length (sym p) ∙ part-length bytes b h)
+    let p : part bytes b ≡ held = cc in
+    ap length (sym p) ∙ part-length bytes b h)
     (λ (h : length bytes / 512 ≤ b).
-      let past : block-at (image-blocks bytes) b ≡ Block.unreadable = getD-past (image-blocks bytes) b Block.unreadable (rw image-size h) in
-      let z : _≡_ {A = ℕ} 0 1 = cc in omega arith)
+    let past : block-at (image-blocks bytes) b ≡ Block.unreadable = getD-past (image-blocks bytes) b Block.unreadable (rw image-size h) in
+    let z : _≡_ {A = ℕ} 0 1 = cc in omega arith)
     (cases-lt b (length bytes / 512))

@@ -74,6 +74,5 @@ pub impl Device for Image as ImageDevice {
         ensures same { λ _. ⌜ image-blocks (vec-items (now (self .exit) .bytes)) ≡ image-blocks (vec-items (now (self .entry) .bytes)) ⌝ }
         ensures after { λ _. ⌜ true ≡ true ⌝ }
         ensures bytes { λ _. ⌜ vec-items (now (self .exit) .bytes) ≡ vec-items (now (self .entry) .bytes) ⌝ }
-    {
-    }
+    {}
 }

@@ -15,5 +15,5 @@ returns c =
     let within : b < length bytes / 512 = omega (arith, image-size bytes, c .size .ensures .value) in
     let n : 512 * b + 512 - 512 * b ≡ 512 = omega arith in
     let copied : c .copy-from-slice .last .self ≡ part bytes b =
-        c .copy-from-slice .ensures .after ∙ ap (λ k. take k (drop (512 * b) (c .deref .result .now))) n ∙ ap (λ xs. part xs b) (c .deref .ensures .value) in
+    c .copy-from-slice .ensures .after ∙ ap (λ k. take k (drop (512 * b) (c .deref .result .now))) n ∙ ap (λ xs. part xs b) (c .deref .ensures .value) in
     (omega (arith, image-size bytes), refl, image-block bytes b within ∙ ap Block.readable (sym copied))

@@ -20,7 +20,8 @@ returns c =
     let within : b < length bytes / 512 = omega (arith, image-size bytes, c .size .ensures .value) in
     let after = λ (xs ys : List ℕ). take (held .len) (putMid (512 * b) k xs ys ++ drop (length (putMid (512 * b) k xs ys)) bytes) in
     let left = ap₂ after (c .deref-mut .ensures .value) (c .copy-from-slice .ensures .after)
-        ∙ written bytes new b within (c .told-bytes) (held .len) k (held .ok .0) (omega arith) in
+    ∙ written bytes new b within (c .told-bytes) (held .len) k (held .ok .0) (omega arith) in
     record {
       stores = (omega (arith, image-size bytes), refl, refl, ap image-blocks left ∙ image-stored bytes new b within (c .told-bytes));
-      bytes = (within, left) }
+      bytes = (within, left);
+    }

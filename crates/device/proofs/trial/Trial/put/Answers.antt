@@ -19,6 +19,7 @@ returns c =
     let marks = vec-items (t .marks) in
     record {
       after =
-        ap (λ xs. masked xs (set marks b 0)) (stored-below blocks b new (c .store .result) _ (has-block t b (c .pre)) (c .store .ensures .stores))
-        ∙ masked-put blocks marks b (Block.readable new);
-      same = record { planned = refl; armed = refl; stored = refl; powered = refl } }
+          ap (λ xs. masked xs (set marks b 0)) (stored-below blocks b new (c .store .result) _ (has-block t b (c .pre)) (c .store .ensures .stores))
+          ∙ masked-put blocks marks b (Block.readable new);
+      same = record { planned = refl; armed = refl; stored = refl; powered = refl };
+    }
