@@ -1,3 +1,4 @@
+mod Cuts
 mod Images
 mod Skews
 mod Trials

@@ -75,3 +75,13 @@ pub record TrialLights (t t′ : Trial) : Type 0 where
   pub planned : t′ .cuts ≡ t .cuts
   pub next : t′ .armed ≡ cond (ltb (t .armed) 8) (t .armed + 1) (t .armed)
   pub afresh : t′ .stored ≡ 0
+
+-- j stores in a row that passed the tests and were done
+pub data Done-in-a-row : Trial → ℕ → Trial → Type 0 where
+  none : {t : Trial} → Done-in-a-row t 0 t
+  more : {t u v : Trial} {j b : ℕ} {bytes : List ℕ} → Done-in-a-row t j u → b < length (trial-blocks u) → u .lit ≡ true →
+      TrialStores u b bytes storing.Done v → Done-in-a-row t (j + 1) v
+
+-- counting from a light, the store that is cut is the one that bears the armed cut's number, and no other
+abbrev pub Numbered-store-is-cut : Type 0
+Numbered-store-is-cut = (t u : Trial) (j : ℕ) → t .stored ≡ 0 → Done-in-a-row t j u → hit u ≡ eqb (j + 1) (armed-cut t .at)

@@ -22,3 +22,4 @@ pub use skew::SkewDevice;
 pub use skew::skew_examples_hold;
 pub use trial::Trial;
 pub use trial::TrialDevice;
+pub use trial::numbered_store_is_cut;

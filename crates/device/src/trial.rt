@@ -5,7 +5,7 @@ ghost use Prim.Native.Nat.{ℕ, _<_};
 ghost use lib.ListN.{length, set};
 ghost use Rattle.std.specs.Of.Vec.{vec-items, vec-len};
 ghost use Rattle.device.specs.Blocks.{Block, Reads, Stores};
-ghost use Rattle.device.specs.Trials.{trial-blocks, armed-cut, hit, count-on, Others, Made, TrialStores, TrialLights};
+ghost use Rattle.device.specs.Trials.{trial-blocks, armed-cut, hit, count-on, Others, Made, TrialStores, TrialLights, Numbered-store-is-cut};
 ghost use Rattle.device.specs.Images.{image-blocks};
 ghost use Rattle.device.specs.ImageLaws.{image-whole};
 ghost use Rattle.device.specs.TrialLaws.{masked-whole};
@@ -168,3 +168,9 @@ pub impl Device for Trial as TrialDevice {
         self.lit = true;
     }
 }
+
+/// The store that is cut is the one that bears the armed cut's number, counted since the last
+/// light, and no other.
+pub fn numbered_store_is_cut()
+    ensures { λ _. ⌜ Numbered-store-is-cut ⌝ }
+{}
