@@ -1,6 +1,8 @@
 pub mod Blocks
 pub mod ImageLaws
 pub mod Images
+pub mod PlanLaws
+pub mod Plans
 pub mod SkewLaws
 pub mod Skews
 pub mod TrialLaws
