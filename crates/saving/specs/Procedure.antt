@@ -1,6 +1,6 @@
 -- The save procedure in use today, as lists of stores, and what its end is called.
 -- The job stands in blocks 0 to 7, the spare copy in 8 to 15, the marker in 16.
---   copies         a job's parts, stored one after another
+--   copies         a job's parts, stored one after another; copies-marked: and then the marker
 --   save-plan      the new job to the spare blocks, the marker, the job over the old one, no marker
 --   marker-at      whether the marker is there
 --   loaded         the parts that stand from an address on, if all can be read
@@ -28,15 +28,15 @@ abbrev pub copies : List (List ℕ) → ℕ → List Write
 copies [] from = []
 copies (part ∷ parts) from = write from part ∷ copies parts (from + 1)
 
--- the marker block: its first byte is 1, or 0 when it is taken away
-unfoldable pub marked : List ℕ
-marked = 1 ∷ replicate 511 0
+-- the marker block: 1 where the marker is set, 0 once it is taken away, and zeros
+unfoldable pub marker-block : ℕ → List ℕ
+marker-block mark = mark ∷ replicate 511 0
 
-unfoldable pub blank : List ℕ
-blank = replicate 512 0
+abbrev pub copies-marked : List (List ℕ) → ℕ → ℕ → List Write
+copies-marked parts from mark = copies parts from ++ write 16 (marker-block mark) ∷ []
 
 abbrev pub save-plan : List (List ℕ) → List Write
-save-plan parts = copies parts 8 ++ (write 16 marked ∷ []) ++ copies parts 0 ++ (write 16 blank ∷ [])
+save-plan parts = copies-marked parts 8 1 ++ copies-marked parts 0 0
 
 abbrev pub marker-of : Block → Marker
 marker-of Block.unreadable = marker.Unreadable
@@ -50,14 +50,11 @@ unfoldable pub loaded : List Block → ℕ → ℕ → Option (List (List ℕ))
 loaded blocks from zero = Some []
 loaded blocks from (suc n) = joined-on (block-at blocks from) (loaded blocks (from + 1) n)
 
-abbrev pub restores : Option (List (List ℕ)) → List Write
-restores None = []
-restores (Some parts) = copies parts 0 ++ (write 16 blank ∷ [])
-
 abbrev pub recovers : Marker → Option (List (List ℕ)) → List Write
 recovers marker.Missing spare = []
 recovers marker.Unreadable spare = []
-recovers marker.There spare = restores spare
+recovers marker.There None = []
+recovers marker.There (Some parts) = copies-marked parts 0 0
 
 abbrev pub recovery-plan : List Block → List Write
 recovery-plan blocks = recovers (marker-of (block-at blocks 16)) (loaded blocks 8 8)

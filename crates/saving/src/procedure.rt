@@ -1,19 +1,26 @@
 // The save procedure in use today: copy aside, set a marker, copy over, take the marker away.
 ghost use mathlib.Core.Path.{_≡_};
-ghost use mathlib.Core.Bool.{true};
+ghost use mathlib.Core.Bool.{true, false};
 ghost use mathlib.Core.List.{List, [], _∷_};
 ghost use Prim.Native.Nat.{ℕ, _+_, _<_, _≤_};
 ghost use lib.ListN.{length};
+ghost use Rattle.std.specs.Options.{mapped};
 ghost use Rattle.device.specs.Blocks.{block-at};
 ghost use Rattle.device.specs.Plans.{write, Runs};
-ghost use Rattle.saving.specs.Procedure.{copies, save-plan, marker-of, loaded, recovery-plan};
+ghost use Rattle.saving.specs.Procedure.{copies, marker-block, copies-marked, save-plan, marker-of, loaded, recovery-plan};
 use crate::job::Job;
+use crate::outcome::Outcome;
 use device::Device;
+use device::Reading;
 use device::Storing;
 
 // where the spare copy of the job begins, and where the marker stands
 const SPARE: usize = 8;
 const MARKER: usize = 16;
+
+// the marker's first byte
+const SET: u8 = 1;
+const CLEAR: u8 = 0;
 
 /// Whether the marker says that a save was under way.
 #[derive(Clone, Copy)]
@@ -47,4 +54,74 @@ fn copy<D: Device>(device: &mut D, job: &Job, from: usize) -> Result<(), PowerCu
         put(device, from + i, part)?;
     }
     Ok(())
+}
+
+// The marker block: its first byte says whether the marker is set.
+fn marker_block(mark: u8) -> [u8; 512]
+    ensures { λ r. ⌜ r ≡ marker-block mark ⌝ }
+{
+    let mut bytes = [0; 512];
+    bytes[0] = mark;
+    bytes
+}
+
+// The job's parts, and then the marker, set or taken away.
+fn copy_and_mark<D: Device>(device: &mut D, job: &Job, from: usize, mark: u8) -> Result<(), PowerCut>
+    requires { ⌜ 17 ≤ length (blocks (now device)) ⌝ ∗ ⌜ from ≤ 8 ⌝ }
+    ensures { λ r. ⌜ Runs (blocks (now (device .entry))) (lit (now (device .entry))) (copies-marked (now (job .entry) .parts) from mark) r (blocks (now (device .exit))) (lit (now (device .exit))) ⌝ }
+{
+    copy(device, job, from)?;
+    put(device, MARKER, &marker_block(mark))
+}
+
+// The new job to the spare blocks, the marker, the job over the old one, and no marker.
+fn save<D: Device>(device: &mut D, job: &Job) -> Result<(), PowerCut>
+    requires { ⌜ 17 ≤ length (blocks (now device)) ⌝ }
+    ensures { λ r. ⌜ Runs (blocks (now (device .entry))) (lit (now (device .entry))) (save-plan (now (job .entry) .parts)) r (blocks (now (device .exit))) (lit (now (device .exit))) ⌝ }
+{
+    copy_and_mark(device, job, SPARE, SET)?;
+    copy_and_mark(device, job, 0, CLEAR)
+}
+
+// Whether a save was under way.
+fn look<D: Device>(device: &D) -> Marker
+    requires { ⌜ 17 ≤ length (blocks (now device)) ⌝ ∗ ⌜ lit (now device) ≡ true ⌝ }
+    ensures { λ r. ⌜ r ≡ marker-of (block-at (blocks (now (device .entry))) 16) ⌝ }
+{
+    let mut bytes = [0; 512];
+    match device.read(MARKER, &mut bytes) {
+        Reading::Done if bytes[0] != 0 => Marker::There,
+        Reading::Done => Marker::Missing,
+        _ => Marker::Unreadable,
+    }
+}
+
+// The parts that stand from `from` on, if all can be read.
+fn load<D: Device>(device: &D, from: usize) -> Option<Job>
+    requires { ⌜ from + 8 ≤ length (blocks (now device)) ⌝ ∗ ⌜ from ≤ 8 ⌝ ∗ ⌜ lit (now device) ≡ true ⌝ }
+    ensures { λ r. ⌜ mapped (λ job. job .parts) r ≡ loaded (blocks (now (device .entry))) from 8 ⌝ }
+{
+    let mut parts = [[0; 512]; 8];
+    for i in 0..8 {
+        let mut bytes = [0; 512];
+        match device.read(from + i, &mut bytes) {
+            Reading::Done => parts[i] = bytes,
+            _ => return None,
+        }
+    }
+    Some(Job { parts })
+}
+
+// After a cut: if the marker is there, the spare copy over the job once more, and no marker.
+fn recover<D: Device>(device: &mut D) -> Result<(), PowerCut>
+    requires { ⌜ 17 ≤ length (blocks (now device)) ⌝ ∗ ⌜ lit (now device) ≡ true ⌝ }
+    ensures { λ r. ⌜ Runs (blocks (now (device .entry))) true (recovery-plan (blocks (now (device .entry)))) r (blocks (now (device .exit))) (lit (now (device .exit))) ⌝ }
+{
+    let Marker::There = look(device) else {
+        return Ok(());
+    };
+    match load(device, SPARE) {
+        Some(job) => copy_and_mark(device, &job, 0, CLEAR),
+        None => Ok(()),
+    }
 }
