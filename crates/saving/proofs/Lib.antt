@@ -1,2 +1,3 @@
 mod Copies
 mod Loading
+mod Verdicts

@@ -7,3 +7,7 @@ pub use job::Job;
 pub use outcome::Outcome;
 pub use outcome::OutcomeDebug;
 pub use outcome::OutcomePartialEq;
+pub use outcome::Report;
+pub use outcome::ReportDebug;
+pub use outcome::ReportPartialEq;
+pub use procedure::replay;

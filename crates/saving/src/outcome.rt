@@ -18,3 +18,14 @@ pub enum Outcome {
     /// The drive has fewer than 17 blocks. Nothing was stored.
     TooSmall,
 }
+
+/// What came of one replay.
+#[derive(Clone, Copy, PartialEq, Eq, Debug)]
+pub struct Report {
+    /// Whether the save itself ran to its end, with no cut.
+    pub saved: bool,
+    /// How many recoveries were cut.
+    pub cuts: u32,
+    /// What stands in the job's place.
+    pub outcome: Outcome,
+}

@@ -7,19 +7,22 @@ ghost use lib.ListN.{length};
 ghost use Rattle.std.specs.Options.{mapped};
 ghost use Rattle.device.specs.Blocks.{block-at};
 ghost use Rattle.device.specs.Plans.{write, Runs};
-ghost use Rattle.saving.specs.Procedure.{copies, marker-block, copies-marked, save-plan, marker-of, loaded, recovery-plan};
+ghost use Rattle.saving.specs.Procedure.{copies, marker-block, copies-marked, save-plan, marker-of, loaded, recovery-plan, Judged, Replays};
 use crate::job::Job;
 use crate::outcome::Outcome;
+use crate::outcome::Report;
 use device::Device;
 use device::Reading;
 use device::Storing;
 
 // where the spare copy of the job begins, and where the marker stands
 const SPARE: usize = 8;
+
 const MARKER: usize = 16;
 
 // the marker's first byte
 const SET: u8 = 1;
+
 const CLEAR: u8 = 0;
 
 /// Whether the marker says that a save was under way.
@@ -66,7 +69,12 @@ fn marker_block(mark: u8) -> [u8; 512]
 }
 
 // The job's parts, and then the marker, set or taken away.
-fn copy_and_mark<D: Device>(device: &mut D, job: &Job, from: usize, mark: u8) -> Result<(), PowerCut>
+fn copy_and_mark<D: Device>(
+    device: &mut D,
+    job: &Job,
+    from: usize,
+    mark: u8,
+) -> Result<(), PowerCut>
     requires { ⌜ 17 ≤ length (blocks (now device)) ⌝ ∗ ⌜ from ≤ 8 ⌝ }
     ensures { λ r. ⌜ Runs (blocks (now (device .entry))) (lit (now (device .entry))) (copies-marked (now (job .entry) .parts) from mark) r (blocks (now (device .exit))) (lit (now (device .exit))) ⌝ }
 {
@@ -123,5 +131,56 @@ fn recover<D: Device>(device: &mut D) -> Result<(), PowerCut>
     match load(device, SPARE) {
         Some(job) => copy_and_mark(device, &job, 0, CLEAR),
         None => Ok(()),
+    }
+}
+
+// What stands in the job's place.
+fn judge<D: Device>(device: &D, old: &Job, new: &Job) -> Outcome
+    requires { ⌜ 17 ≤ length (blocks (now device)) ⌝ ∗ ⌜ lit (now device) ≡ true ⌝ }
+    ensures { λ r. ⌜ Judged (now (old .entry) .parts) (now (new .entry) .parts) (blocks (now (device .entry))) r ⌝ }
+{
+    if let Marker::Unreadable = look(device) {
+        return Outcome::MarkerUnreadable;
+    }
+    let Some(job) = load(device, 0) else {
+        return Outcome::PartUnreadable;
+    };
+    if job.same(old) {
+        Outcome::Old
+    } else if job.same(new) {
+        Outcome::New
+    } else {
+        Outcome::Mixed
+    }
+}
+
+/// Saves the new job on a drive that holds the old one, and recovers after each cut, at most nine
+/// times, until a recovery is whole. Then it says what stands in the job's place.
+pub fn replay<D: Device>(device: &mut D, old: &Job, new: &Job) -> Report
+    ensures { λ r. ⌜ Replays (blocks (now (device .entry))) (now (old .entry) .parts) (now (new .entry) .parts) r (blocks (now (device .exit))) ⌝ }
+{
+    if device.size() < 17 {
+        return Report {
+            saved: false,
+            cuts: 0,
+            outcome: Outcome::TooSmall,
+        };
+    }
+    let saved = save(device, new).is_ok();
+    for cuts in 0..9 {
+        device.light();
+        if recover(device).is_ok() {
+            let outcome = judge(device, old, new);
+            return Report {
+                saved,
+                cuts,
+                outcome,
+            };
+        }
+    }
+    Report {
+        saved,
+        cuts: 9,
+        outcome: Outcome::Unfinished,
     }
 }

@@ -20,18 +20,20 @@ returns-in-Break-put g c =
     let p = err-from-errBy (c .from-residual .result) (c .from-residual .ensures .1) in
     let ended = c .in-Break-put .ensures tt in
     let blocks = g .D·Device .blocks in
-    rw (p .1)
-    (cut-copies (c .args .job .now .parts) (c .loop-i .i) (c .args .from) (omega arith)
-     (blocks (c .args .device .now)) (blocks (c .loop-i .device)) (blocks (c .put .last .device)) (c .loop-i .inv .0) (ended .0),
-     ended .1)
+    rw (p .1) (
+      cut-copies (c .args .job .now .parts) (c .loop-i .i) (c .args .from) (omega arith)
+          (blocks (c .args .device .now)) (blocks (c .loop-i .device)) (blocks (c .put .last .device)) (c .loop-i .inv .0) (ended .0),
+      ended .1,
+    )
 
 pub loop-i-again : need.loop-i-again
 loop-i-again g c =
     let done = c .in-Continue-put .ensures tt in
-    let blocks = g .D·Device .blocks in
-    (wrote-more (c .args .job .now .parts) (c .loop-i .i) (c .args .from) (omega arith)
-     (blocks (c .args .device .now)) (blocks (c .loop-i .device)) (blocks (c .put .last .device)) (c .loop-i .inv .0) (done .0),
-     λ on. done .1 (c .loop-i .inv .1 on))
+    let blocks = g .D·Device .blocks in (
+      wrote-more (c .args .job .now .parts) (c .loop-i .i) (c .args .from) (omega arith)
+          (blocks (c .args .device .now)) (blocks (c .loop-i .device)) (blocks (c .put .last .device)) (c .loop-i .inv .0) (done .0),
+      λ on. done .1 (c .loop-i .inv .1 on),
+    )
 
 pub returns : need.returns
 returns g c =

@@ -17,7 +17,7 @@ returns-in-rest g c =
     let at = c .args .from + c .loop-i .i in
     let within : at < length blocks = omega arith in
     sym (loaded-none blocks 8 (c .args .from) (c .loop-i .i) (omega arith)
-      (unread blocks (g .D·Device .lit (c .args .device .now)) at (c .read .result) _ (c .read .last .buffer) within (c .pre .1 .1) (c .in-rest .not-Done) (c .read .ensures)))
+    (unread blocks (g .D·Device .lit (c .args .device .now)) at (c .read .result) _ (c .read .last .buffer) within (c .pre .1 .1) (c .in-rest .not-Done) (c .read .ensures)))
 
 pub loop-i-again : need.loop-i-again
 loop-i-again g c =
@@ -25,11 +25,12 @@ loop-i-again g c =
     let parts = c .loop-i .parts in
     let i = c .loop-i .i in
     let new = c .read .last .buffer in
-    let within : i < length parts = omega (arith, c .loop-i .inv .0) in
-    (length-set parts i new ∙ c .loop-i .inv .0,
-     below-more (λ k. block-at blocks (c .args .from + k) ≡ Block.readable (getD (set parts i new) k [])) i
-     (λ k h. let ne : k ≢ i = omega arith in c .loop-i .inv .1 k h ∙ ap Block.readable (sym (getD-set-other parts i k new [] ne)))
-     (c .in-Done .ensures tt .2 ∙ ap Block.readable (sym (getD-set-same parts i new [] within))))
+    let within : i < length parts = omega (arith, c .loop-i .inv .0) in (
+      length-set parts i new ∙ c .loop-i .inv .0,
+      below-more (λ k. block-at blocks (c .args .from + k) ≡ Block.readable (getD (set parts i new) k [])) i
+          (λ k h. let ne : k ≢ i = omega arith in c .loop-i .inv .1 k h ∙ ap Block.readable (sym (getD-set-other parts i k new [] ne)))
+          (c .in-Done .ensures tt .2 ∙ ap Block.readable (sym (getD-set-same parts i new [] within))),
+    )
 
 pub returns : need.returns
 returns g c =
