@@ -10,7 +10,7 @@ pub struct Job {
 
 impl Job {
     /// Whether the two jobs are alike, part by part.
-    pub fn same(&self, other: &Job) -> bool
+    pub(crate) fn same(&self, other: &Job) -> bool
         ensures { λ r. ⌜ Decides r (now (self .entry) .parts ≡ now (other .entry) .parts) ⌝ }
     {
         for (i, part) in self.parts.iter().enumerate() {
