@@ -1,4 +1,5 @@
 pub mod Blocks
+pub mod Gathers
 pub mod ImageLaws
 pub mod Images
 pub mod PlanLaws

@@ -1,0 +1,4 @@
+pub mod Addresses
+pub mod Bytes
+pub mod Entries
+pub mod Identifiers
