@@ -1,3 +1,4 @@
 mod Digits
 mod Entries
+mod Maps
 mod RoundTrips

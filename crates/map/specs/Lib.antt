@@ -2,3 +2,4 @@ pub mod Addresses
 pub mod Bytes
 pub mod Entries
 pub mod Identifiers
+pub mod Maps
