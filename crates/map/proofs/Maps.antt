@@ -13,7 +13,7 @@ use Rattle.std.specs.declared.option.Option.{Option}
 use Rattle.std.specs.declared.option.Option.the-variants.{Some, None}
 use Rattle.device.specs.Gathers.{gathered, gathered-all, gathered-each}
 use Rattle.map.specs.Entries.{encoded-entry, decoded-entry, fits-entry, Named}
-use Rattle.map.specs.Maps.{entry-part, decoded-map, encoded-from, encoded-map, Fitting, Map-bytes-return, Map-entries-return}
+use Rattle.map.specs.Maps.{entry-part, decoded-sector, decoded-map, encoded-from, encoded-map, Fitting, Map-bytes-return, Map-entries-return}
 use Rattle.map.specs.declared.entry.Entry.{Entry}
 use Rattle.map.specs.declared.entry.Entry.the-variants.{Map}
 use Rattle.map.proofs.Entries.{encoded-length}
@@ -40,11 +40,11 @@ part-of-encoded a (e ∷ es) (suc k) h =
 
 pub map-entries-return : Map-entries-return
 map-entries-return cylinders c entries long fitting =
-    ap (gathered (λ s. decoded-entry cylinders (32 * c + s) (entry-part (encoded-map c entries) s)) 0) (sym long)
-    ∙ gathered-all (λ s. decoded-entry cylinders (32 * c + s) (entry-part (encoded-map c entries) s)) Map entries 0
+    ap (gathered (decoded-sector cylinders c (encoded-map c entries)) 0) (sym long)
+    ∙ gathered-all (decoded-sector cylinders c (encoded-map c entries)) Map entries 0
       (λ k h.
         let here : 0 + k ≡ k = omega arith in
-        ap (λ s. decoded-entry cylinders (32 * c + s) (entry-part (encoded-map c entries) s)) here
+        ap (decoded-sector cylinders c (encoded-map c entries)) here
         ∙ ap (decoded-entry cylinders (32 * c + k)) (part-of-encoded (32 * c) entries k h)
         ∙ entry-back cylinders (32 * c + k) (getD entries k Map) (fitting k h .0) (fitting k h .1))
 
@@ -64,9 +64,9 @@ joined-parts block (e ∷ es) a s fits each =
 
 pub map-bytes-return : Map-bytes-return
 map-bytes-return cylinders c block entries long is =
-    let each = gathered-each (λ s. decoded-entry cylinders (32 * c + s) (entry-part block s)) 32 0 entries is in
+    let each = gathered-each (decoded-sector cylinders c block) 32 0 entries is in
     let at : (k : ℕ) → k < length entries → decoded-entry cylinders (32 * c + k) (entry-part block k) ≡ Some (getD entries k Map) =
-        λ k h. ap (λ s. decoded-entry cylinders (32 * c + s) (entry-part block s)) (omega arith) ∙ each .has Map k (omega (arith, each .long)) in
+        λ k h. ap (decoded-sector cylinders c block) (omega arith) ∙ each .has Map k (omega (arith, each .long)) in
     let joined = joined-parts block entries (32 * c) 0 (omega (arith, each .long))
         (λ k h. entry-bytes cylinders (32 * c + k) (entry-part block k) (getD entries k Map) (at k h) .0 ∙ ap (entry-part block) (omega arith)) in
     (joined ∙ take-all (16 * length entries) block (omega (arith, each .long)),

@@ -1,5 +1,6 @@
 -- A cylinder map: 32 entries of sixteen bytes.
 --   entry-part   the bytes of the entry of sector s
+--   decoded-sector  the entry of sector s
 --   decoded-map  the 32 entries, if each is well formed
 --   encoded-map  the bytes of the entries of cylinder c, sector after sector
 --   Fitting      every entry is one that its address may have
@@ -20,8 +21,11 @@ use Rattle.map.specs.declared.entry.Entry.the-variants.{Map}
 abbrev pub entry-part : List ℕ → ℕ → List ℕ
 entry-part block s = piece (16 * s) 16 block
 
+abbrev pub decoded-sector : ℕ → ℕ → List ℕ → ℕ → Option Entry
+decoded-sector cylinders c block s = decoded-entry cylinders (32 * c + s) (entry-part block s)
+
 abbrev pub decoded-map : ℕ → ℕ → List ℕ → Option (List Entry)
-decoded-map cylinders c block = gathered (λ s. decoded-entry cylinders (32 * c + s) (entry-part block s)) 0 32
+decoded-map cylinders c block = gathered (decoded-sector cylinders c block) 0 32
 
 -- the entries from address a on
 unfoldable pub encoded-from : ℕ → List Entry → List ℕ

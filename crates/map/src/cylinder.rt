@@ -1,7 +1,7 @@
 // A whole cylinder map: 32 entries, and back.
 ghost use mathlib.Core.Path.{_≡_};
 ghost use Prim.Native.Nat.{_+_, _*_, _<_};
-ghost use Rattle.map.specs.Maps.{decoded-map, encoded-map, Map-bytes-return, Map-entries-return};
+ghost use Rattle.map.specs.Maps.{decoded-sector, decoded-map, encoded-map, Map-bytes-return, Map-entries-return};
 use crate::entry::Entry;
 
 // The address of a sector.
@@ -12,6 +12,15 @@ fn address(cylinder: u8, sector: usize) -> u32
     32 * u32::from(cylinder) + sector as u32
 }
 
+// The entry of one sector, from its part of the block.
+fn decode_sector(block: &[u8; 512], s: usize, cylinder: u8, cylinders: u8) -> Option<Entry>
+    requires { ⌜ s < 32 ⌝ }
+    ensures { λ r. ⌜ r ≡ decoded-sector cylinders cylinder (now (block .entry)) s ⌝ }
+{
+    let part = &block[16 * s..16 * s + 16];
+    Entry::decode(part, address(cylinder, s), u32::from(cylinders))
+}
+
 /// The entries of a cylinder's map, sector by sector, in a volume of so many cylinders, if the
 /// bytes are well formed.
 pub fn decode_map(block: &[u8; 512], cylinder: u8, cylinders: u8) -> Option<[Entry; 32]>
@@ -19,8 +28,7 @@ pub fn decode_map(block: &[u8; 512], cylinder: u8, cylinders: u8) -> Option<[Ent
 {
     let mut entries = [Entry::Map; 32];
     for s in 0..32 {
-        let part = &block[16 * s..16 * s + 16];
-        entries[s] = Entry::decode(part, address(cylinder, s), u32::from(cylinders))?;
+        entries[s] = decode_sector(block, s, cylinder, cylinders)?;
     }
     Some(entries)
 }
