@@ -40,7 +40,7 @@ ahead z Done-in-a-row.none = record { same = refl; counted = λ h. (z, h) }
 ahead {t} z (Done-in-a-row.more {u = u} {v = v} {j = j} {b = b} {bytes = bytes} run within on s) =
     let was = ahead z run in
     let missed = done-not-hit u v b bytes within on s in
-    let others = s .done within on missed .2 in
+    let others = s .done within on missed .3 in
     record {
       same = ap₂ (λ cuts i. getD cuts i never) (others .planned) (others .armed) ∙ was .same;
       counted = λ h. counted-on (armed-cut t .at) (armed-cut u .at) (u .stored) (v .stored) j (ap (λ (cut : Cut). cut .at) (was .same)) (was .counted h .0) (was .counted h .1) missed (others .stored);

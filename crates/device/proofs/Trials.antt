@@ -9,7 +9,8 @@ use lib.ListN.{length, getD, set}
 use Rattle.std.proofs.shelf.Tests.{true≢false, ne-eqb, eq-eqb}
 use Rattle.std.specs.Of.Vec.{vec-items, vec-len}
 use Rattle.device.specs.Blocks.{Block, block-at, Reads, Stores}
-use Rattle.device.specs.Images.{image-blocks}
+use Rattle.device.specs.ImageLaws.{image-size}
+use Rattle.device.specs.Images.{image-blocks, overwritten, Overwrites}
 use Rattle.device.specs.TrialLaws.{masked-size, masked-at}
 use Rattle.device.specs.Trials.{masked, trial-blocks}
 use Rattle.device.specs.declared.answers.Reading.{Reading}
@@ -46,6 +47,11 @@ pub stored-below : (blocks : List Block) (b : ℕ) (bytes : List ℕ) (r : Stori
 stored-below blocks b bytes storing.Outside blocks′ h s = absurd (omega arith)
 stored-below blocks b bytes storing.Dark blocks′ h s = absurd (true≢false (s .1))
 stored-below blocks b bytes storing.Done blocks′ h s = s .3
+
+pub overwrites-done : (bytes : List ℕ) (b : ℕ) (new : List ℕ) (r : Storing) (bytes′ : List ℕ) → b < length (image-blocks bytes) → Overwrites bytes b new r bytes′ → bytes′ ≡ overwritten bytes b new
+overwrites-done bytes b new storing.Outside bytes′ h s = absurd (omega (arith, image-size bytes))
+overwrites-done bytes b new storing.Dark bytes′ h s = absurd s
+overwrites-done bytes b new storing.Done bytes′ h s = s .1
 
 module _ (blocks : List Block) (marks : List ℕ) (b : ℕ) (within : b < length (masked blocks marks)) where
   marked-within : b < length marks

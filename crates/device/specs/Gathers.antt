@@ -52,6 +52,7 @@ module _ {X : Type 0} (f : ℕ → Option X) where
       at : (x d : X) (ys : List X) → f from ≡ Some x → Each (from + 1) n ys → (k : ℕ) → k < suc n → f (from + k) ≡ Some (getD (x ∷ ys) k d)
       at x d ys here rest zero h = ap f (omega arith) ∙ here
       at x d ys here rest (suc k) h = ap f (omega arith) ∙ rest .has d k (omega arith)
+
       step : ((ys : List X) → gathered f (from + 1) n ≡ Some ys → Each (from + 1) n ys) →
           (o : Option X) → f from ≡ o → (r : Option (List X)) → gathered f (from + 1) n ≡ r → both o r ≡ Some xs → Each from (suc n) xs
       step more None here r rest is = absurd (let z : _≡_ {A = ℕ} 0 1 = cc in omega arith)
@@ -61,4 +62,5 @@ module _ {X : Type 0} (f : ℕ → Option X) where
           let tail = more ys rest in
           record {
             long = ap length same ∙ ap suc (tail .long);
-            has = λ d k h. at x d ys here tail k h ∙ ap (λ zs. Some (getD zs k d)) (sym same) }
+            has = λ d k h. at x d ys here tail k h ∙ ap (λ zs. Some (getD zs k d)) (sym same);
+          }

@@ -12,7 +12,7 @@ use lib.Dec.{eqb, ltb}
 use lib.ListN.{length, getD, set}
 use Rattle.std.specs.Of.Vec.{vec-items}
 use Rattle.device.specs.Blocks.{Block, left-by}
-use Rattle.device.specs.Images.{image-blocks}
+use Rattle.device.specs.Images.{image-blocks, overwritten}
 use Rattle.device.specs.declared.answers.Storing.{Storing}
 use Rattle.device.specs.declared.answers.Storing.the-variants as storing
 use Rattle.device.specs.declared.answers.Manner.{Manner}
@@ -59,18 +59,36 @@ pub record Made (bytes marks : List ℕ) (cuts : List Cut) (t : Trial) : Type 0 
   pub afresh : t .stored ≡ 0
   pub powered : t .lit ≡ true
 
+-- the bytes below the marks and the marks: after a store that is done, after one that is cut
+abbrev pub Contents : Type 0
+Contents = List ℕ × List ℕ
+
+abbrev pub contents : Trial → Contents
+contents t = (vec-items (t .image .bytes), vec-items (t .marks))
+
+abbrev pub filled : Contents → ℕ → List ℕ → Contents
+filled held b bytes = (overwritten (held .0) b bytes, set (held .1) b 0)
+
+abbrev pub cut-contents : Manner → Contents → ℕ → List ℕ → Contents
+cut-contents manner.Old held b bytes = held
+cut-contents manner.New held b bytes = filled held b bytes
+cut-contents manner.Unreadable held b bytes = (held .0, set (held .1) b 1)
+
 -- exactly what a store of `bytes` at b answers and leaves
 pub record TrialStores (t : Trial) (b : ℕ) (bytes : List ℕ) (r : Storing) (t′ : Trial) : Type 0 where
   pub outside : length (trial-blocks t) ≤ b → (r ≡ storing.Outside) × (t′ ≡ t)
   pub dark : b < length (trial-blocks t) → t .lit ≡ false → (r ≡ storing.Dark) × (t′ ≡ t)
   pub cut : b < length (trial-blocks t) → t .lit ≡ true → hit t ≡ true →
-      (r ≡ storing.Dark) × (trial-blocks t′ ≡ left-by (armed-cut t .manner) (trial-blocks t) b bytes) × Others t (count-on t) false t′
+      (r ≡ storing.Dark) × (trial-blocks t′ ≡ left-by (armed-cut t .manner) (trial-blocks t) b bytes)
+      × (contents t′ ≡ cut-contents (armed-cut t .manner) (contents t) b bytes) × Others t (count-on t) false t′
   pub done : b < length (trial-blocks t) → t .lit ≡ true → hit t ≡ false →
-      (r ≡ storing.Done) × (trial-blocks t′ ≡ set (trial-blocks t) b (Block.readable bytes)) × Others t (count-on t) true t′
+      (r ≡ storing.Done) × (trial-blocks t′ ≡ set (trial-blocks t) b (Block.readable bytes))
+      × (contents t′ ≡ filled (contents t) b bytes) × Others t (count-on t) true t′
 
 -- a light: no block changes, the next cut is armed, or none, and stores are counted afresh
 pub record TrialLights (t t′ : Trial) : Type 0 where
   pub same : trial-blocks t′ ≡ trial-blocks t
+  pub kept : contents t′ ≡ contents t
   pub powered : t′ .lit ≡ true
   pub planned : t′ .cuts ≡ t .cuts
   pub next : t′ .armed ≡ cond (ltb (t .armed) 8) (t .armed + 1) (t .armed)

@@ -42,6 +42,10 @@ pub impl Device for Image as ImageDevice {
 
     ghost whole = { λ s. image-whole (vec-items (s .bytes)) };
 
+    ghost puts = { λ s b bytes r t. Overwrites (vec-items (s .bytes)) b bytes r (vec-items (t .bytes)) };
+
+    ghost lights = { λ s t. vec-items (t .bytes) ≡ vec-items (s .bytes) };
+
     fn size(&self) -> usize
         ensures value { λ r. ⌜ r ≡ length (image-blocks (vec-items (now (self .entry) .bytes))) ⌝ }
         ensures number { λ r. ⌜ r ≡ vec-len (now (self .entry) .bytes) / 512 ⌝ }
@@ -60,7 +64,7 @@ pub impl Device for Image as ImageDevice {
 
     fn store(&mut self, b: usize, bytes: &[u8; 512]) -> Storing
         ensures stores { λ r. ⌜ Stores (image-blocks (vec-items (now (self .entry) .bytes))) true b (now (bytes .entry)) r (image-blocks (vec-items (now (self .exit) .bytes))) true ⌝ }
-        ensures bytes { λ r. ⌜ Overwrites (vec-items (now (self .entry) .bytes)) b (now (bytes .entry)) r (vec-items (now (self .exit) .bytes)) ⌝ }
+        ensures exact { λ r. ⌜ Overwrites (vec-items (now (self .entry) .bytes)) b (now (bytes .entry)) r (vec-items (now (self .exit) .bytes)) ⌝ }
     {
         if b >= self.size() {
             return Storing::Outside;
@@ -73,6 +77,6 @@ pub impl Device for Image as ImageDevice {
     fn light(&mut self)
         ensures same { λ _. ⌜ image-blocks (vec-items (now (self .exit) .bytes)) ≡ image-blocks (vec-items (now (self .entry) .bytes)) ⌝ }
         ensures after { λ _. ⌜ true ≡ true ⌝ }
-        ensures bytes { λ _. ⌜ vec-items (now (self .exit) .bytes) ≡ vec-items (now (self .entry) .bytes) ⌝ }
+        ensures exact { λ _. ⌜ vec-items (now (self .exit) .bytes) ≡ vec-items (now (self .entry) .bytes) ⌝ }
     {}
 }

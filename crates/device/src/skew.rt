@@ -1,7 +1,7 @@
 // The skew: a layer that orders the sectors of every cylinder anew, over any device.
 ghost use mathlib.Core.Path.{_≡_};
 ghost use Rattle.device.specs.SkewLaws.{skewed-whole};
-ghost use Rattle.device.specs.Skews.{skewed, Skew-examples};
+ghost use Rattle.device.specs.Skews.{skewed, SkewStores, Skew-examples};
 use crate::answers::Reading;
 use crate::answers::Storing;
 use crate::device::Device;
@@ -39,6 +39,10 @@ pub impl<D: Device> Device for Skew<D> as SkewDevice {
     ghost lit = { λ s. D·Device .lit (s .device) };
 
     ghost whole = { λ s. skewed-whole (s .factor .k) (D·Device .blocks (s .device)) (D·Device .whole (s .device)) };
+
+    ghost puts = { λ s b bytes r t. SkewStores (s .factor .k) (D·Device .blocks (s .device)) (D·Device .puts (s .device)) (s .device) b bytes r (t .factor .k) (t .device) };
+
+    ghost lights = { λ s t. D·Device .lights (s .device) (t .device) × (t .factor .k ≡ s .factor .k) };
 
     fn size(&self) -> usize {
         32 * (self.device.size() / 32)

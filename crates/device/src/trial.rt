@@ -1,11 +1,13 @@
 // The trial drive: an image whose blocks can be unreadable and whose power fails at chosen stores.
 ghost use mathlib.Core.Path.{_≡_};
 ghost use mathlib.Core.Bool.{true};
+ghost use mathlib.Core.List.{[]};
 ghost use Prim.Native.Nat.{ℕ, _<_};
+ghost use Rattle.device.specs.declared.answers.Manner.the-variants.{Unreadable};
 ghost use lib.ListN.{length, set};
 ghost use Rattle.std.specs.Of.Vec.{vec-items, vec-len};
 ghost use Rattle.device.specs.Blocks.{Block, Reads, Stores};
-ghost use Rattle.device.specs.Trials.{trial-blocks, armed-cut, hit, count-on, Others, Made, TrialStores, TrialLights, Numbered-store-is-cut};
+ghost use Rattle.device.specs.Trials.{trial-blocks, armed-cut, hit, count-on, Others, contents, filled, cut-contents, Made, TrialStores, TrialLights, Numbered-store-is-cut};
 ghost use Rattle.device.specs.Images.{image-blocks};
 ghost use Rattle.device.specs.ImageLaws.{image-whole};
 ghost use Rattle.device.specs.TrialLaws.{masked-whole};
@@ -92,6 +94,7 @@ impl Trial {
     fn put(&mut self, b: usize, bytes: &[u8; 512])
         requires { ⌜ b < length (trial-blocks (now self)) ⌝ }
         ensures after { λ _. ⌜ trial-blocks (now (self .exit)) ≡ set (trial-blocks (now (self .entry))) b (Block.readable (now (bytes .entry))) ⌝ }
+        ensures contents { λ _. ⌜ contents (now (self .exit)) ≡ filled (contents (now (self .entry))) b (now (bytes .entry)) ⌝ }
         ensures same { λ _. ⌜ Others (now (self .entry)) (now (self .entry) .stored) (now (self .entry) .lit) (now (self .exit)) ⌝ }
     {
         let _ = self.image.store(b, bytes);
@@ -102,6 +105,7 @@ impl Trial {
     fn lose(&mut self, b: usize)
         requires { ⌜ b < length (trial-blocks (now self)) ⌝ }
         ensures after { λ _. ⌜ trial-blocks (now (self .exit)) ≡ set (trial-blocks (now (self .entry))) b Block.unreadable ⌝ }
+        ensures contents { λ _. ⌜ contents (now (self .exit)) ≡ cut-contents Unreadable (contents (now (self .entry))) b [] ⌝ }
         ensures same { λ _. ⌜ Others (now (self .entry)) (now (self .entry) .stored) (now (self .entry) .lit) (now (self .exit)) ⌝ }
     {
         self.marks[b] = 1;
@@ -114,6 +118,10 @@ pub impl Device for Trial as TrialDevice {
     ghost lit = { λ t. t .lit };
 
     ghost whole = { λ t. masked-whole (image-blocks (vec-items (t .image .bytes))) (vec-items (t .marks)) (image-whole (vec-items (t .image .bytes))) };
+
+    ghost puts = { TrialStores };
+
+    ghost lights = { TrialLights };
 
     fn size(&self) -> usize {
         self.image.size().min(self.marks.len())

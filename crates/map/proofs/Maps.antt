@@ -35,18 +35,18 @@ part-of-encoded a (e ∷ es) (suc k) h =
     let front = encoded-entry a e in
     let rest = encoded-from (a + 1) es in
     let past : drop (16 * suc k) (front ++ rest) ≡ drop (16 * k) rest =
-        ap (λ n. drop n (front ++ rest)) (omega arith) ∙ sym (drop-drop (16 * k) 16 (front ++ rest)) ∙ ap (drop (16 * k)) (drop-at front rest 16 (encoded-length a e)) in
+    ap (λ n. drop n (front ++ rest)) (omega arith) ∙ sym (drop-drop (16 * k) 16 (front ++ rest)) ∙ ap (drop (16 * k)) (drop-at front rest 16 (encoded-length a e)) in
     ap (take 16) past ∙ part-of-encoded (a + 1) es k (omega arith) ∙ ap (λ b. encoded-entry b (getD es k Map)) (omega arith)
 
 pub map-entries-return : Map-entries-return
 map-entries-return cylinders c entries long fitting =
     ap (gathered (decoded-sector cylinders c (encoded-map c entries)) 0) (sym long)
     ∙ gathered-all (decoded-sector cylinders c (encoded-map c entries)) Map entries 0
-      (λ k h.
-        let here : 0 + k ≡ k = omega arith in
-        ap (decoded-sector cylinders c (encoded-map c entries)) here
-        ∙ ap (decoded-entry cylinders (32 * c + k)) (part-of-encoded (32 * c) entries k h)
-        ∙ entry-back cylinders (32 * c + k) (getD entries k Map) (fitting k h .0) (fitting k h .1))
+    (λ k h.
+    let here : 0 + k ≡ k = omega arith in
+    ap (decoded-sector cylinders c (encoded-map c entries)) here
+    ∙ ap (decoded-entry cylinders (32 * c + k)) (part-of-encoded (32 * c) entries k h)
+    ∙ entry-back cylinders (32 * c + k) (getD entries k Map) (fitting k h .0) (fitting k h .1))
 
 -- parts that are the bytes of the entries, one after another, are the bytes of all
 joined-parts : (block : List ℕ) (es : List Entry) (a s : ℕ) → 16 * (s + length es) ≤ length block →
@@ -57,7 +57,7 @@ joined-parts block (e ∷ es) a s fits each =
     let rest = drop (16 * s) block in
     let first : encoded-entry a e ≡ take 16 rest = ap (λ b. encoded-entry b e) (omega arith) ∙ each 0 (omega arith) ∙ ap (entry-part block) (omega arith) in
     let later = joined-parts block es (a + 1) (s + 1) (omega arith)
-        (λ k h. ap (λ b. encoded-entry b (getD es k Map)) (omega arith) ∙ each (suc k) (omega arith) ∙ ap (entry-part block) (omega arith)) in
+    (λ k h. ap (λ b. encoded-entry b (getD es k Map)) (omega arith) ∙ each (suc k) (omega arith) ∙ ap (entry-part block) (omega arith)) in
     let next : drop (16 * (s + 1)) block ≡ drop 16 rest = ap (λ n. drop n block) (omega arith) ∙ sym (drop-drop 16 (16 * s) block) in
     let count : 16 * suc (length es) ≡ 16 + 16 * length es = omega arith in
     ap₂ _++_ first (later ∙ ap (take (16 * length es)) next) ∙ sym (take-add 16 (16 * length es) rest) ∙ ap (λ n. take n rest) (sym count)
@@ -66,12 +66,15 @@ pub map-bytes-return : Map-bytes-return
 map-bytes-return cylinders c block entries long is =
     let each = gathered-each (decoded-sector cylinders c block) 32 0 entries is in
     let at : (k : ℕ) → k < length entries → decoded-entry cylinders (32 * c + k) (entry-part block k) ≡ Some (getD entries k Map) =
-        λ k h. ap (decoded-sector cylinders c block) (omega arith) ∙ each .has Map k (omega (arith, each .long)) in
+    λ k h. ap (decoded-sector cylinders c block) (omega arith) ∙ each .has Map k (omega (arith, each .long)) in
     let joined = joined-parts block entries (32 * c) 0 (omega (arith, each .long))
-        (λ k h. entry-bytes cylinders (32 * c + k) (entry-part block k) (getD entries k Map) (at k h) .0 ∙ ap (entry-part block) (omega arith)) in
-    (joined ∙ take-all (16 * length entries) block (omega (arith, each .long)),
-     λ s h. (entry-bytes cylinders (32 * c + s) (entry-part block s) (getD entries s Map) (at s h) .1,
-             entry-named (getD entries s Map) cylinders (32 * c + s) (entry-part block s) (at s h)))
+    (λ k h. entry-bytes cylinders (32 * c + k) (entry-part block k) (getD entries k Map) (at k h) .0 ∙ ap (entry-part block) (omega arith)) in (
+      joined ∙ take-all (16 * length entries) block (omega (arith, each .long)),
+      λ s h. (
+        entry-bytes cylinders (32 * c + s) (entry-part block s) (getD entries s Map) (at s h) .1,
+        entry-named (getD entries s Map) cylinders (32 * c + s) (entry-part block s) (at s h),
+      ),
+    )
 
 encoded-push : (a : ℕ) (es : List Entry) (e : Entry) → encoded-from a (es ++ e ∷ []) ≡ encoded-from a es ++ encoded-entry (a + length es) e
 unfolding encoded-from

@@ -13,7 +13,7 @@ use Rattle.std.specs.declared.option.Option.the-variants.{Some, None}
 use Rattle.std.specs.shelf.Text.{sameBytes}
 use Rattle.map.specs.Addresses.{cylinder-of, sector-of, root-place}
 use Rattle.map.specs.Bytes.{number4}
-use Rattle.map.specs.Entries.{encoded-entry, fits-entry, read-entry, read-data, checked-entry, decoded-entry, kind-number, kind-of, root-state-number, root-state-of, data-state-number, data-state-of, Named}
+use Rattle.map.specs.Entries.{encoded-entry, fits-entry, read-entry, read-root, read-data, checked-entry, decoded-entry, kind-number, kind-of, root-state-number, root-state-of, data-state-number, data-state-of, Named}
 use Rattle.map.specs.Identifiers.{is-tag, is-identifier, identified}
 use Rattle.map.specs.declared.entry.DataState.{DataState}
 use Rattle.map.specs.declared.entry.DataState.the-variants as data-state
@@ -36,11 +36,12 @@ entry-bytes cylinders a bytes e is = go (read-entry a bytes) is
         let same : d ≡ e = cc in
         (ap (encoded-entry a) (sym same) ∙ sameBytes-decides (encoded-entry a d) bytes .0 (parts .1), ap (fits-entry cylinders a) (sym same) ∙ parts .0)
     told d false h f = absurd (let z : _≡_ {A = ℕ} 0 1 = cc in omega arith)
+
     go : (o : Option Entry) → checked-entry cylinders a bytes o ≡ Some e → (encoded-entry a e ≡ bytes) × (fits-entry cylinders a e ≡ true)
     go None f = absurd (let z : _≡_ {A = ℕ} 0 1 = cc in omega arith)
     go (Some d) f = told d _ refl f
 
-kind-back : (k : Kind) → kind-of (kind-number k) ≡ k
+kind-back : (k : Kind) → kind-of (kind-number k) ≡ Some k
 kind-back kind.Normal = refl
 kind-back kind.Special = refl
 kind-back kind.Index = refl
@@ -81,8 +82,8 @@ read-back cylinders a (Root state kind commit tag) fits named =
     let high = leb-true (sector-of a) 4 (place .1) in
     let apart : eqb (sector-of a) 0 ≡ false = ne-eqb (sector-of a) 0 (λ e. omega arith) in
     let root : ltb (sector-of a) 5 ≡ true = lt-ltb (sector-of a) 5 (omega arith) in
-    rw (apart, root-held state, root)
-    (cc (root-state-back state, kind-back kind, commit-back commit, number-of-le4 tag (ltb-true tag (2 ^ 32) (short .1))))
+    rw (apart, root-held state, root, kind-back kind)
+    (cc (root-state-back state, commit-back commit, number-of-le4 tag (ltb-true tag (2 ^ 32) (short .1))))
 read-back cylinders a (Data state position owner) fits named =
     let tag = owner .tag in
     let root = owner .root in
@@ -95,15 +96,15 @@ read-back cylinders a (Data state position owner) fits named =
     let tags = and-parts (ltb 0 tag) (ltb tag (2 ^ 32)) (and-parts (is-tag tag) (root-place root) (names .0) .0) in
     let small : root < 2 ^ 32 = let c = ltb-true (cylinder-of root) 64 (names .1) in omega arith in
     let owned : identified (tag % 256 + tag / 256 % 256 * 256 + tag / 65536 % 256 * 65536 + tag / 16777216 % 256 * 16777216)
-        (root % 256 + root / 256 % 256 * 256 + root / 65536 % 256 * 65536 + root / 16777216 % 256 * 16777216) ≡ Some owner =
-        ap₂ identified (number-of-le4 tag (ltb-true tag (2 ^ 32) (tags .1))) (number-of-le4 root small) ∙ ap (λ t. cond t (Some owner) None) named in
+    (root % 256 + root / 256 % 256 * 256 + root / 65536 % 256 * 65536 + root / 16777216 % 256 * 16777216) ≡ Some owner =
+    ap₂ identified (number-of-le4 tag (ltb-true tag (2 ^ 32) (tags .1))) (number-of-le4 root small) ∙ ap (λ t. cond t (Some owner) None) named in
     rw (apart, data-held state, beyond, owned) (cc (data-state-back state))
 
 -- written and read again: the same entry
 pub entry-back : (cylinders a : ℕ) (e : Entry) → fits-entry cylinders a e ≡ true → Named e → decoded-entry cylinders a (encoded-entry a e) ≡ Some e
 entry-back cylinders a e fits named =
     let tests : (fits-entry cylinders a e && sameBytes (encoded-entry a e) (encoded-entry a e)) ≡ true =
-        and-from (fits-entry cylinders a e) (sameBytes (encoded-entry a e) (encoded-entry a e)) fits (sameBytes-decides (encoded-entry a e) (encoded-entry a e) .1 refl) in
+    and-from (fits-entry cylinders a e) (sameBytes (encoded-entry a e) (encoded-entry a e)) fits (sameBytes-decides (encoded-entry a e) (encoded-entry a e) .1 refl) in
     ap (checked-entry cylinders a (encoded-entry a e)) (read-back cylinders a e fits named) ∙ ap (λ t. cond t (Some e) None) tests
 
 -- what is decoded has an owner's name
@@ -120,13 +121,17 @@ module _ (e : Entry) where
   data-named state position tag root true h = some-named (Data (data-state-of state) position (record { tag = tag; root = root })) h
   data-named state position tag root false h = λ f. absurd (let z : _≡_ {A = ℕ} 0 1 = cc in omega arith)
 
+  root-named : (state commit tag : ℕ) (k : Option Kind) → read-root state k commit tag ≡ Some e → Named e
+  root-named state commit tag None = λ f. absurd (let z : _≡_ {A = ℕ} 0 1 = cc in omega arith)
+  root-named state commit tag (Some k) = some-named (Root (root-state-of state) k (eqb commit 1) tag) tt
+
   read-named : (a : ℕ) (bytes : List ℕ) → read-entry a bytes ≡ Some e → Named e
   read-named a bytes =
       either (eqb (sector-of a) 0) (Some Map) _ (some-named Map tt)
       (either (eqb (getD bytes 0 0) 0) (Some Free) _ (some-named Free tt)
-      (either (ltb (sector-of a) 5) (Some (Root (root-state-of (getD bytes 0 0)) (kind-of (getD bytes 1 0)) (eqb (getD bytes 2 0) 1) (number4 bytes 8))) _
-        (some-named (Root (root-state-of (getD bytes 0 0)) (kind-of (getD bytes 1 0)) (eqb (getD bytes 2 0) 1) (number4 bytes 8)) tt)
-        (data-named (getD bytes 0 0) (getD bytes 3 0) (number4 bytes 8) (number4 bytes 12) _ refl)))
+      (either (ltb (sector-of a) 5) (read-root (getD bytes 0 0) (kind-of (getD bytes 1 0)) (getD bytes 2 0) (number4 bytes 8)) _
+      (root-named (getD bytes 0 0) (getD bytes 2 0) (number4 bytes 8) (kind-of (getD bytes 1 0)))
+      (data-named (getD bytes 0 0) (getD bytes 3 0) (number4 bytes 8) (number4 bytes 12) _ refl)))
 
   checked-read : (cylinders a : ℕ) (bytes : List ℕ) (o : Option Entry) → checked-entry cylinders a bytes o ≡ Some e → o ≡ Some e
   checked-read cylinders a bytes None f = f

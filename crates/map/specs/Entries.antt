@@ -57,15 +57,19 @@ fits-entry cylinders a (Root state kind commit tag) = root-place a && is-tag tag
 fits-entry cylinders a (Data state position owner) =
     data-block a && ltb position 64 && ltb (cylinder-of (owner .root)) cylinders
 
--- byte 0, 1 and 2 as state, kind and commit bit; other values are caught where the bytes are compared
+-- byte 0 as a state; other values are caught where the bytes are compared
 abbrev pub root-state-of : ℕ → RootState
 root-state-of n = cond (eqb n 3) root-state.IntendingToDeallocate root-state.Allocated
 
 abbrev pub data-state-of : ℕ → DataState
 data-state-of n = cond (eqb n 1) data-state.Allocated (cond (eqb n 2) data-state.IntendingToAllocate data-state.IntendingToDeallocate)
 
-abbrev pub kind-of : ℕ → Kind
-kind-of n = cond (eqb n 1) kind.Normal (cond (eqb n 2) kind.Special kind.Index)
+abbrev pub kind-of : ℕ → Option Kind
+kind-of n = cond (eqb n 1) (Some kind.Normal) (cond (eqb n 2) (Some kind.Special) (cond (eqb n 3) (Some kind.Index) None))
+
+abbrev pub read-root : ℕ → Option Kind → ℕ → ℕ → Option Entry
+read-root state None commit tag = None
+read-root state (Some kind) commit tag = Some (Root (root-state-of state) kind (eqb commit 1) tag)
 
 abbrev pub read-data : ℕ → ℕ → Option Identifier → Option Entry
 read-data state position None = None
@@ -76,8 +80,8 @@ read-entry a bytes =
     cond (eqb (sector-of a) 0) (Some Map)
     (cond (eqb (getD bytes 0 0) 0) (Some Free)
     (cond (ltb (sector-of a) 5)
-      (Some (Root (root-state-of (getD bytes 0 0)) (kind-of (getD bytes 1 0)) (eqb (getD bytes 2 0) 1) (number4 bytes 8)))
-      (read-data (getD bytes 0 0) (getD bytes 3 0) (identified (number4 bytes 8) (number4 bytes 12)))))
+    (read-root (getD bytes 0 0) (kind-of (getD bytes 1 0)) (getD bytes 2 0) (number4 bytes 8))
+    (read-data (getD bytes 0 0) (getD bytes 3 0) (identified (number4 bytes 8) (number4 bytes 12)))))
 
 abbrev pub checked-entry : ℕ → ℕ → List ℕ → Option Entry → Option Entry
 checked-entry cylinders a bytes None = None

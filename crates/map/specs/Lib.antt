@@ -1,5 +1,6 @@
 pub mod Addresses
 pub mod Bytes
 pub mod Entries
+pub mod Examples
 pub mod Identifiers
 pub mod Maps

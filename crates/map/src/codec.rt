@@ -24,14 +24,15 @@ impl Kind {
         }
     }
 
-    // The kind of this number; any other number is read as 3.
-    pub(crate) fn of(n: u8) -> Kind
+    /// The kind that this number stands for, if it stands for one.
+    pub fn from_number(n: u8) -> Option<Kind>
         ensures { λ r. ⌜ r ≡ kind-of n ⌝ }
     {
         match n {
-            1 => Kind::Normal,
-            2 => Kind::Special,
-            _ => Kind::Index,
+            1 => Some(Kind::Normal),
+            2 => Some(Kind::Special),
+            3 => Some(Kind::Index),
+            _ => None,
         }
     }
 }
@@ -84,7 +85,24 @@ fn sixteen_bytes(state: u8, kind: u8, commit: u8, position: u8, tag: u32, root: 
 {
     let t = tag.to_le_bytes();
     let r = root.to_le_bytes();
-    [state, kind, commit, position, 0, 0, 0, 0, t[0], t[1], t[2], t[3], r[0], r[1], r[2], r[3]]
+    [
+        state,
+        kind,
+        commit,
+        position,
+        0,
+        0,
+        0,
+        0,
+        t[0],
+        t[1],
+        t[2],
+        t[3],
+        r[0],
+        r[1],
+        r[2],
+        r[3],
+    ]
 }
 
 // The 32-bit number that four bytes from `i` on stand for.
@@ -108,7 +126,14 @@ impl Entry {
                 kind,
                 commit,
                 tag,
-            } => sixteen_bytes(state.number(), kind.number(), if commit { 1 } else { 0 }, 0, tag, a),
+            } => sixteen_bytes(
+                state.number(),
+                kind.number(),
+                if commit { 1 } else { 0 },
+                0,
+                tag,
+                a,
+            ),
             Entry::Data {
                 state,
                 position,
@@ -127,7 +152,9 @@ impl Entry {
             Entry::Free => sector > 0,
             Entry::Root { tag, .. } => sector >= 1 && sector <= 4 && tag > 0,
             Entry::Data {
-                position, owner, ..
+                position,
+                owner,
+                ..
             } => sector >= 5 && position < 64 && owner.root() / 32 < cylinders,
         }
     }
@@ -145,9 +172,10 @@ impl Entry {
             return Some(Entry::Free);
         }
         if sector < 5 {
+            let kind = Kind::from_number(part[1])?;
             return Some(Entry::Root {
                 state: RootState::of(part[0]),
-                kind: Kind::of(part[1]),
+                kind,
                 commit: part[2] == 1,
                 tag: number_at(part, 8),
             });

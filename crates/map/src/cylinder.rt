@@ -50,5 +50,4 @@ pub fn encode_map(entries: &[Entry; 32], cylinder: u8) -> [u8; 512]
 pub fn maps_return()
     ensures bytes { λ _. ⌜ Map-bytes-return ⌝ }
     ensures entries { λ _. ⌜ Map-entries-return ⌝ }
-{
-}
+{}

@@ -22,11 +22,12 @@ loop-s-again c =
     let entries = c .loop-s .entries in
     let s = c .loop-s .s in
     let new = c .in-Continue-entries .field-0 in
-    let within : s < length entries = omega (arith, c .loop-s .inv .0) in
-    (length-set entries s new ∙ c .loop-s .inv .0,
-     below-more (λ k. at k ≡ Some (getD (set entries s new) k Map)) s
-     (λ k h. let ne : k ≢ s = omega arith in c .loop-s .inv .1 k h ∙ ap Some (sym (getD-set-other entries s k new Map ne)))
-     (sym (c .in-Continue-entries .ensures tt) ∙ ap Some (sym (getD-set-same entries s new Map within))))
+    let within : s < length entries = omega (arith, c .loop-s .inv .0) in (
+      length-set entries s new ∙ c .loop-s .inv .0,
+      below-more (λ k. at k ≡ Some (getD (set entries s new) k Map)) s
+          (λ k h. let ne : k ≢ s = omega arith in c .loop-s .inv .1 k h ∙ ap Some (sym (getD-set-other entries s k new Map ne)))
+          (sym (c .in-Continue-entries .ensures tt) ∙ ap Some (sym (getD-set-same entries s new Map within))),
+    )
 
 pub returns : need.returns
 returns c =

@@ -23,9 +23,10 @@ loop-s-again c =
     let bytes = c .copy-from-slice .last .self in
     let within : s < length entries = omega (arith, c .told-entries) in
     let bytes-are : bytes ≡ encoded-entry (a + s) (getD entries s Map) =
-        c .copy-from-slice .ensures .after ∙ c .encode-bytes .ensures ∙ ap (λ b. encoded-entry b (getD entries s Map)) (c .address .ensures) in
-    (written-length block bytes entries a s k (c .loop-s .inv .0) (omega arith) within (omega arith) bytes-are,
-     written-more block bytes entries a s k (c .loop-s .inv .0) (omega arith) within (omega arith) bytes-are (c .loop-s .inv .1))
+    c .copy-from-slice .ensures .after ∙ c .encode-bytes .ensures ∙ ap (λ b. encoded-entry b (getD entries s Map)) (c .address .ensures) in (
+      written-length block bytes entries a s k (c .loop-s .inv .0) (omega arith) within (omega arith) bytes-are,
+      written-more block bytes entries a s k (c .loop-s .inv .0) (omega arith) within (omega arith) bytes-are (c .loop-s .inv .1),
+    )
 
 pub returns : need.returns
 returns c =

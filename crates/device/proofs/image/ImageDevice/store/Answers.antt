@@ -23,5 +23,5 @@ returns c =
     ∙ written bytes new b within (c .told-bytes) (held .len) k (held .ok .0) (omega arith) in
     record {
       stores = (omega (arith, image-size bytes), refl, refl, ap image-blocks left ∙ image-stored bytes new b within (c .told-bytes));
-      bytes = (within, left);
+      exact = (within, left);
     }

@@ -1,3 +1,4 @@
+use mathlib.Core.Path.{refl}
 use Prim.Native.Nat.{_*_, _/_, _<_}
 use native.Mathlib.Omega.{arith}
 use lib.ListN.{length}
@@ -14,4 +15,12 @@ returns g c =
     let below = device .blocks (s .device) in
     let after = c .store .last .self in
     let within : b < 32 * (length below / 32) = omega (arith, skewed-size k below) in
-    store-skewed k (s .factor .allowed) below b within (device .lit (s .device)) (c .args .bytes .now) (c .store .result) (device .blocks after) (device .lit after) (rw (c .place-at .ensures .value) at (c .store .ensures))
+    record {
+      stores = store-skewed k (s .factor .allowed) below b within (device .lit (s .device)) (c .args .bytes .now) (c .store .result) (device .blocks after) (device .lit after)
+          (rw (c .place-at .ensures .value) at (c .store .ensures .stores));
+      exact = record {
+        factor = refl;
+        outside = λ h. absurd (omega arith);
+        inside = λ _. rw (c .place-at .ensures .value) at (c .store .ensures .exact);
+      };
+    }

@@ -12,5 +12,6 @@ returns c =
     let t = c .args .self .now in
     record {
       after = masked-lost (image-blocks (vec-items (t .image .bytes))) (vec-items (t .marks)) (c .args .b);
+      contents = refl;
       same = record { planned = refl; armed = refl; stored = refl; powered = refl };
     }
