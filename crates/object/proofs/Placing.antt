@@ -1,0 +1,49 @@
+-- What stands in a block after bytes were put into it, byte by byte.
+use mathlib.Core.List.{List, _++_}
+use mathlib.Core.Path.{_≡_, refl, sym, ap, _∙_}
+use Prim.Native.Nat.{ℕ, _+_, _-_, _<_, _≤_}
+use native.Mathlib.Omega.{arith}
+use borrow.Rule.Slice.PartMut.{putMid}
+use lib.ListN.{length, take, drop, getD}
+use Rattle.std.proofs.shelf.Lists.{length-append, length-take, length-take-le, length-drop, getD-append-left, getD-append-right, getD-take, getD-drop, take-at, append-assoc, drop-drop}
+use Rattle.map.specs.Bytes.{placed}
+
+-- as the checker writes a write to a part
+pub placed-from-part : (at k : ℕ) (block bytes : List ℕ) → k ≡ length bytes → putMid at k block bytes ≡ placed at bytes block
+unfolding placed
+placed-from-part at k block bytes e = ap (λ tail. take at block ++ (bytes ++ tail)) (drop-drop k at block ∙ ap (λ n. drop (at + n) block) e)
+
+module _ (at : ℕ) (bytes block : List ℕ) (within : at + length bytes ≤ length block) where
+  front : length (take at block) ≡ at
+  front = length-take-le at block (omega arith)
+
+  pub placed-length : length (placed at bytes block) ≡ length block
+  unfolding placed
+  placed-length = simp (length-append, length-take, length-drop) (omega arith)
+
+  pub placed-below : (k : ℕ) → k < at → getD (placed at bytes block) k 0 ≡ getD block k 0
+  unfolding placed
+  placed-below k h =
+      let far : k < length (take at block) = omega (arith, front) in
+      getD-append-left (take at block) (bytes ++ drop (at + length bytes) block) 0 k far ∙ getD-take at block k 0 h
+
+  pub placed-inside : (k : ℕ) → k < length bytes → getD (placed at bytes block) (at + k) 0 ≡ getD bytes k 0
+  unfolding placed
+  placed-inside k h =
+      getD-append-right (take at block) (bytes ++ drop (at + length bytes) block) at (at + k) 0 front (omega arith)
+      ∙ ap (λ n. getD (bytes ++ drop (at + length bytes) block) n 0) (omega arith)
+      ∙ getD-append-left bytes (drop (at + length bytes) block) 0 k h
+
+  pub placed-above : (k : ℕ) → at + length bytes ≤ k → getD (placed at bytes block) k 0 ≡ getD block k 0
+  unfolding placed
+  placed-above k h =
+      getD-append-right (take at block) (bytes ++ drop (at + length bytes) block) at k 0 front (omega arith)
+      ∙ getD-append-right bytes (drop (at + length bytes) block) (length bytes) (k - at) 0 refl (omega arith)
+      ∙ getD-drop (at + length bytes) block (k - at - length bytes) 0
+      ∙ ap (λ n. getD block n 0) (omega arith)
+
+  pub take-placed : take (at + length bytes) (placed at bytes block) ≡ take at block ++ bytes
+  unfolding placed
+  take-placed =
+      ap (take (at + length bytes)) (sym (append-assoc (take at block) bytes (drop (at + length bytes) block)))
+      ∙ take-at (take at block ++ bytes) (drop (at + length bytes) block) (at + length bytes) (length-append (take at block) bytes ∙ omega (arith, front))
