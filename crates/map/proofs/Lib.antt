@@ -1,4 +1,3 @@
-mod Digits
 mod Entries
 mod Maps
 mod RoundTrips

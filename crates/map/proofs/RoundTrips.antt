@@ -12,6 +12,7 @@ use Rattle.std.specs.declared.option.Option.{Option}
 use Rattle.std.specs.declared.option.Option.the-variants.{Some, None}
 use Rattle.std.specs.shelf.Text.{sameBytes}
 use Rattle.map.specs.Addresses.{cylinder-of, sector-of, root-place}
+use Rattle.map.specs.ByteLaws.{number-of-le4, identified-again}
 use Rattle.map.specs.Bytes.{number4}
 use Rattle.map.specs.Entries.{encoded-entry, fits-entry, read-entry, read-root, read-data, checked-entry, decoded-entry, kind-number, kind-of, root-state-number, root-state-of, data-state-number, data-state-of, Named}
 use Rattle.map.specs.Identifiers.{is-tag, is-identifier, identified}
@@ -24,7 +25,6 @@ use Rattle.map.specs.declared.entry.RootState.the-variants as root-state
 use Rattle.map.specs.declared.identifier.Identifier.{Identifier}
 use Rattle.map.specs.declared.kind.Kind.{Kind}
 use Rattle.map.specs.declared.kind.Kind.the-variants as kind
-use Rattle.map.proofs.Digits.{number-of-le4}
 
 -- read and written again: the same bytes
 pub entry-bytes : (cylinders a : ℕ) (bytes : List ℕ) (e : Entry) → decoded-entry cylinders a bytes ≡ Some e → (encoded-entry a e ≡ bytes) × (fits-entry cylinders a e ≡ true)
@@ -85,19 +85,13 @@ read-back cylinders a (Root state kind commit tag) fits named =
     rw (apart, root-held state, root, kind-back kind)
     (cc (root-state-back state, commit-back commit, number-of-le4 tag (ltb-true tag (2 ^ 32) (short .1))))
 read-back cylinders a (Data state position owner) fits named =
-    let tag = owner .tag in
     let root = owner .root in
     let parts = and-parts (leb 5 (sector-of a) && ltb position 64) (ltb (cylinder-of root) cylinders) fits in
     let place = and-parts (leb 5 (sector-of a)) (ltb position 64) (parts .0) in
     let high = leb-true 5 (sector-of a) (place .0) in
     let apart : eqb (sector-of a) 0 ≡ false = ne-eqb (sector-of a) 0 (λ e. omega arith) in
     let beyond : ltb (sector-of a) 5 ≡ false = le-ltb (sector-of a) 5 high in
-    let names = and-parts (is-tag tag && root-place root) (ltb (cylinder-of root) 64) named in
-    let tags = and-parts (ltb 0 tag) (ltb tag (2 ^ 32)) (and-parts (is-tag tag) (root-place root) (names .0) .0) in
-    let small : root < 2 ^ 32 = let c = ltb-true (cylinder-of root) 64 (names .1) in omega arith in
-    let owned : identified (tag % 256 + tag / 256 % 256 * 256 + tag / 65536 % 256 * 65536 + tag / 16777216 % 256 * 16777216)
-    (root % 256 + root / 256 % 256 * 256 + root / 65536 % 256 * 65536 + root / 16777216 % 256 * 16777216) ≡ Some owner =
-    ap₂ identified (number-of-le4 tag (ltb-true tag (2 ^ 32) (tags .1))) (number-of-le4 root small) ∙ ap (λ t. cond t (Some owner) None) named in
+    let owned = identified-again owner named in
     rw (apart, data-held state, beyond, owned) (cc (data-state-back state))
 
 -- written and read again: the same entry

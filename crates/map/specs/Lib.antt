@@ -1,4 +1,5 @@
 pub mod Addresses
+pub mod ByteLaws
 pub mod Bytes
 pub mod Entries
 pub mod Examples

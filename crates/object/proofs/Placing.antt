@@ -1,12 +1,12 @@
 -- What stands in a block after bytes were put into it, byte by byte.
 use mathlib.Core.List.{List, _++_}
-use mathlib.Core.Path.{_≡_, refl, sym, ap, _∙_}
-use Prim.Native.Nat.{ℕ, _+_, _-_, _<_, _≤_}
+use mathlib.Core.Path.{_≡_, refl, sym, ap, ap₂, _∙_}
+use Prim.Native.Nat.{ℕ, _+_, _-_, _*_, _<_, _≤_}
 use native.Mathlib.Omega.{arith}
 use borrow.Rule.Slice.PartMut.{putMid}
 use lib.ListN.{length, take, drop, getD}
 use Rattle.std.proofs.shelf.Lists.{length-append, length-take, length-take-le, length-drop, getD-append-left, getD-append-right, getD-take, getD-drop, take-at, append-assoc, drop-drop}
-use Rattle.map.specs.Bytes.{placed}
+use Rattle.map.specs.Bytes.{number4, placed}
 
 -- as the checker writes a write to a part
 pub placed-from-part : (at k : ℕ) (block bytes : List ℕ) → k ≡ length bytes → putMid at k block bytes ≡ placed at bytes block
@@ -47,3 +47,23 @@ module _ (at : ℕ) (bytes block : List ℕ) (within : at + length bytes ≤ len
   take-placed =
       ap (take (at + length bytes)) (sym (append-assoc (take at block) bytes (drop (at + length bytes) block)))
       ∙ take-at (take at block ++ bytes) (drop (at + length bytes) block) (at + length bytes) (length-append (take at block) bytes ∙ omega (arith, front))
+
+  pub number-inside : (k : ℕ) → k + 4 ≤ length bytes → number4 (placed at bytes block) (at + k) ≡ number4 bytes k
+  number-inside k h =
+      let byte : (j : ℕ) → j < 4 → getD (placed at bytes block) (at + k + j) 0 ≡ getD bytes (k + j) 0 =
+          λ j l. ap (λ n. getD (placed at bytes block) n 0) (omega arith) ∙ placed-inside (k + j) (omega arith) in
+      let first : getD (placed at bytes block) (at + k) 0 ≡ getD bytes k 0 = placed-inside k (omega arith) in
+      ap₂ _+_ (ap₂ _+_ (ap₂ _+_ first (ap (λ x. x * 256) (byte 1 (omega arith)))) (ap (λ x. x * 65536) (byte 2 (omega arith)))) (ap (λ x. x * 16777216) (byte 3 (omega arith)))
+
+  -- bytes that do not meet the place
+  same-number : (j : ℕ) → ((i : ℕ) → i < 4 → getD (placed at bytes block) (j + i) 0 ≡ getD block (j + i) 0) → number4 (placed at bytes block) j ≡ number4 block j
+  same-number j byte =
+      let first : getD (placed at bytes block) j 0 ≡ getD block j 0 =
+          ap (λ n. getD (placed at bytes block) n 0) (omega arith) ∙ byte 0 (omega arith) ∙ ap (λ n. getD block n 0) (omega arith) in
+      ap₂ _+_ (ap₂ _+_ (ap₂ _+_ first (ap (λ x. x * 256) (byte 1 (omega arith)))) (ap (λ x. x * 65536) (byte 2 (omega arith)))) (ap (λ x. x * 16777216) (byte 3 (omega arith)))
+
+  pub number-below : (j : ℕ) → j + 4 ≤ at → number4 (placed at bytes block) j ≡ number4 block j
+  number-below j h = same-number j (λ i l. placed-below (j + i) (omega arith))
+
+  pub number-above : (j : ℕ) → at + length bytes ≤ j → number4 (placed at bytes block) j ≡ number4 block j
+  number-above j h = same-number j (λ i l. placed-above (j + i) (omega arith))

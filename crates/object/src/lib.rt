@@ -1,7 +1,12 @@
 // Root blocks, words and index entries: what the bytes of an object's blocks say, and back.
 mod bytes;
+mod index;
 mod words;
 
+pub use index::index_entries_return;
+pub use index::index_entry;
+pub use index::index_place;
+pub use index::set_index_entry;
 pub use words::block_of_words;
 pub use words::replace_words;
 pub use words::words_of_block;
