@@ -10,7 +10,8 @@ use mathlib.Core.Logic.{⊎-elim}
 use Rattle.std.specs.declared.option.Option.{Option}
 use Rattle.std.specs.declared.option.Option.the-variants.{Some, None}
 use Rattle.std.specs.shelf.Text.{sameBytes}
-use Rattle.map.specs.Entries.{encoded-entry, fits-entry, read-entry, checked-entry, decoded-entry}
+use Rattle.map.specs.Checked.{checked}
+use Rattle.map.specs.Entries.{encoded-entry, fits-entry, read-entry, decoded-entry}
 use Rattle.map.specs.declared.entry.Entry.{Entry}
 use Rattle.map.specs.declared.entry.Entry.the-variants.{Map, Free, Root, Data}
 
@@ -34,6 +35,6 @@ and-false false = refl
 pub decoded-none : (cylinders a : ℕ) (bytes : List ℕ) → (length bytes ≡ 16 → ⊥) → decoded-entry cylinders a bytes ≡ None
 decoded-none cylinders a bytes h = go (read-entry a bytes)
   where
-    go : (o : Option Entry) → checked-entry cylinders a bytes o ≡ None
+    go : (o : Option Entry) → checked (fits-entry cylinders a) (encoded-entry a) bytes o ≡ None
     go None = refl
     go (Some e) = ap (λ t. cond t (Some e) None) (ap (λ u. fits-entry cylinders a e && u) (unlike a bytes e h) ∙ and-false (fits-entry cylinders a e))

@@ -6,15 +6,14 @@ use Prim.Native.Nat.{ℕ, _+_, _*_, _/_, _%_, _^_, _<_, _≤_}
 use native.Mathlib.Omega.{arith}
 use lib.Dec.{eqb, ltb, leb}
 use lib.ListN.{getD}
-use Rattle.std.proofs.shelf.Equals.{sameBytes-decides}
-use Rattle.std.proofs.shelf.Tests.{and-parts, and-from, ltb-true, leb-true, eqb-true, ne-eqb, eq-eqb, lt-ltb, le-ltb}
+use Rattle.std.proofs.shelf.Tests.{and-parts, ltb-true, leb-true, eqb-true, ne-eqb, eq-eqb, lt-ltb, le-ltb}
 use Rattle.std.specs.declared.option.Option.{Option}
 use Rattle.std.specs.declared.option.Option.the-variants.{Some, None}
-use Rattle.std.specs.shelf.Text.{sameBytes}
 use Rattle.map.specs.Addresses.{cylinder-of, sector-of, root-place}
 use Rattle.map.specs.ByteLaws.{number-of-le4, identified-again}
 use Rattle.map.specs.Bytes.{number4}
-use Rattle.map.specs.Entries.{encoded-entry, fits-entry, read-entry, read-root, read-data, checked-entry, decoded-entry, kind-number, kind-of, root-state-number, root-state-of, data-state-number, data-state-of, Named}
+use Rattle.map.specs.Checked.{checked-named, checked-bytes, checked-back}
+use Rattle.map.specs.Entries.{encoded-entry, fits-entry, read-entry, read-root, read-data, decoded-entry, kind-number, kind-of, root-state-number, root-state-of, data-state-number, data-state-of, Named}
 use Rattle.map.specs.Identifiers.{is-tag, is-identifier, identified}
 use Rattle.map.specs.declared.entry.DataState.{DataState}
 use Rattle.map.specs.declared.entry.DataState.the-variants as data-state
@@ -28,18 +27,7 @@ use Rattle.map.specs.declared.kind.Kind.the-variants as kind
 
 -- read and written again: the same bytes
 pub entry-bytes : (cylinders a : ℕ) (bytes : List ℕ) (e : Entry) → decoded-entry cylinders a bytes ≡ Some e → (encoded-entry a e ≡ bytes) × (fits-entry cylinders a e ≡ true)
-entry-bytes cylinders a bytes e is = go (read-entry a bytes) is
-  where
-    told : (d : Entry) (t : Bool) → (fits-entry cylinders a d && sameBytes (encoded-entry a d) bytes) ≡ t → cond t (Some d) None ≡ Some e → (encoded-entry a e ≡ bytes) × (fits-entry cylinders a e ≡ true)
-    told d true h f =
-        let parts = and-parts (fits-entry cylinders a d) (sameBytes (encoded-entry a d) bytes) h in
-        let same : d ≡ e = cc in
-        (ap (encoded-entry a) (sym same) ∙ sameBytes-decides (encoded-entry a d) bytes .0 (parts .1), ap (fits-entry cylinders a) (sym same) ∙ parts .0)
-    told d false h f = absurd (let z : _≡_ {A = ℕ} 0 1 = cc in omega arith)
-
-    go : (o : Option Entry) → checked-entry cylinders a bytes o ≡ Some e → (encoded-entry a e ≡ bytes) × (fits-entry cylinders a e ≡ true)
-    go None f = absurd (let z : _≡_ {A = ℕ} 0 1 = cc in omega arith)
-    go (Some d) f = told d _ refl f
+entry-bytes cylinders a bytes e is = checked-bytes (fits-entry cylinders a) (encoded-entry a) bytes (read-entry a bytes) e is
 
 kind-back : (k : Kind) → kind-of (kind-number k) ≡ Some k
 kind-back kind.Normal = refl
@@ -97,9 +85,7 @@ read-back cylinders a (Data state position owner) fits named =
 -- written and read again: the same entry
 pub entry-back : (cylinders a : ℕ) (e : Entry) → fits-entry cylinders a e ≡ true → Named e → decoded-entry cylinders a (encoded-entry a e) ≡ Some e
 entry-back cylinders a e fits named =
-    let tests : (fits-entry cylinders a e && sameBytes (encoded-entry a e) (encoded-entry a e)) ≡ true =
-    and-from (fits-entry cylinders a e) (sameBytes (encoded-entry a e) (encoded-entry a e)) fits (sameBytes-decides (encoded-entry a e) (encoded-entry a e) .1 refl) in
-    ap (checked-entry cylinders a (encoded-entry a e)) (read-back cylinders a e fits named) ∙ ap (λ t. cond t (Some e) None) tests
+    checked-back (fits-entry cylinders a) (encoded-entry a) (read-entry a (encoded-entry a e)) e (read-back cylinders a e fits named) fits
 
 -- what is decoded has an owner's name
 module _ (e : Entry) where
@@ -127,13 +113,5 @@ module _ (e : Entry) where
       (root-named (getD bytes 0 0) (getD bytes 2 0) (number4 bytes 8) (kind-of (getD bytes 1 0)))
       (data-named (getD bytes 0 0) (getD bytes 3 0) (number4 bytes 8) (number4 bytes 12) _ refl)))
 
-  checked-read : (cylinders a : ℕ) (bytes : List ℕ) (o : Option Entry) → checked-entry cylinders a bytes o ≡ Some e → o ≡ Some e
-  checked-read cylinders a bytes None f = f
-  checked-read cylinders a bytes (Some d) f = go (fits-entry cylinders a d && sameBytes (encoded-entry a d) bytes) f
-    where
-      go : (t : Bool) → cond t (Some d) None ≡ Some e → Some d ≡ Some e
-      go true g = g
-      go false g = absurd (let z : _≡_ {A = ℕ} 0 1 = cc in omega arith)
-
   pub entry-named : (cylinders a : ℕ) (bytes : List ℕ) → decoded-entry cylinders a bytes ≡ Some e → Named e
-  entry-named cylinders a bytes is = read-named a bytes (checked-read cylinders a bytes (read-entry a bytes) is)
+  entry-named cylinders a bytes is = read-named a bytes (checked-named (fits-entry cylinders a) (encoded-entry a) bytes (read-entry a bytes) e is)

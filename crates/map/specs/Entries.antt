@@ -11,9 +11,9 @@ use lib.Dec.{eqb, ltb}
 use lib.ListN.{getD, replicate}
 use Rattle.std.specs.declared.option.Option.{Option}
 use Rattle.std.specs.declared.option.Option.the-variants.{Some, None}
-use Rattle.std.specs.shelf.Text.{sameBytes}
 use Rattle.map.specs.Addresses.{cylinder-of, sector-of, root-place, data-block}
 use Rattle.map.specs.Bytes.{le4, number4}
+use Rattle.map.specs.Checked.{checked}
 use Rattle.map.specs.Identifiers.{is-tag, is-identifier, identified}
 use Rattle.map.specs.declared.entry.DataState.{DataState}
 use Rattle.map.specs.declared.entry.DataState.the-variants as data-state
@@ -83,12 +83,8 @@ read-entry a bytes =
     (read-root (getD bytes 0 0) (kind-of (getD bytes 1 0)) (getD bytes 2 0) (number4 bytes 8))
     (read-data (getD bytes 0 0) (getD bytes 3 0) (identified (number4 bytes 8) (number4 bytes 12)))))
 
-abbrev pub checked-entry : ℕ → ℕ → List ℕ → Option Entry → Option Entry
-checked-entry cylinders a bytes None = None
-checked-entry cylinders a bytes (Some e) = cond (fits-entry cylinders a e && sameBytes (encoded-entry a e) bytes) (Some e) None
-
 abbrev pub decoded-entry : ℕ → ℕ → List ℕ → Option Entry
-decoded-entry cylinders a bytes = checked-entry cylinders a bytes (read-entry a bytes)
+decoded-entry cylinders a bytes = checked (fits-entry cylinders a) (encoded-entry a) bytes (read-entry a bytes)
 
 -- an owner is named by an identifier, as its type says
 abbrev pub Named : Entry → Type 0

@@ -30,9 +30,9 @@ entry-written block e id long proper =
     let low : e % 64 < 64 = mod-below e 64 (omega arith) in
     let room : index-byte e + length (identifier-bytes id) ≤ length block = omega (arith, eight id) in
     let first : number4 (entered block e id) (index-byte e) ≡ number4 (identifier-bytes id) 0 =
-        ap (number4 (entered block e id)) (omega arith) ∙ number-inside (index-byte e) (identifier-bytes id) block room 0 (omega (arith, eight id)) in
+    ap (number4 (entered block e id)) (omega arith) ∙ number-inside (index-byte e) (identifier-bytes id) block room 0 (omega (arith, eight id)) in
     let second : number4 (entered block e id) (index-byte e + 4) ≡ number4 (identifier-bytes id) 4 =
-        number-inside (index-byte e) (identifier-bytes id) block room 4 (omega (arith, eight id)) in
+    number-inside (index-byte e) (identifier-bytes id) block room 4 (omega (arith, eight id)) in
     ap₂ identified first second ∙ named-again id proper
 
 entry-other : (block : List ℕ) (e f : ℕ) (id : Option Identifier) → length block ≡ 512 → (f % 64 ≡ e % 64 → ⊥) → entry-of (entered block e id) f ≡ entry-of block f
@@ -42,8 +42,8 @@ entry-other block e f id long ne =
     ⊎-elim
     (λ (same : f % 64 ≡ e % 64). absurd (ne same))
     (⊎-elim
-      (λ (l : f % 64 < e % 64). ap₂ identified (number-below (index-byte e) (identifier-bytes id) block room (index-byte f) (omega arith)) (number-below (index-byte e) (identifier-bytes id) block room (index-byte f + 4) (omega arith)))
-      (λ (g : e % 64 < f % 64). ap₂ identified (number-above (index-byte e) (identifier-bytes id) block room (index-byte f) (omega (arith, eight id))) (number-above (index-byte e) (identifier-bytes id) block room (index-byte f + 4) (omega (arith, eight id)))))
+    (λ (l : f % 64 < e % 64). ap₂ identified (number-below (index-byte e) (identifier-bytes id) block room (index-byte f) (omega arith)) (number-below (index-byte e) (identifier-bytes id) block room (index-byte f + 4) (omega arith)))
+    (λ (g : e % 64 < f % 64). ap₂ identified (number-above (index-byte e) (identifier-bytes id) block room (index-byte f) (omega (arith, eight id))) (number-above (index-byte e) (identifier-bytes id) block room (index-byte f + 4) (omega (arith, eight id)))))
     (cases-order (f % 64) (e % 64))
 
 pub entries-return : Entries-return

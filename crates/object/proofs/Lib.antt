@@ -1,3 +1,4 @@
 mod Entries
 mod Placing
+mod RootLaws
 mod WordLaws

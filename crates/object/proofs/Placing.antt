@@ -1,17 +1,21 @@
 -- What stands in a block after bytes were put into it, byte by byte.
-use mathlib.Core.List.{List, _++_}
+use mathlib.Core.List.{List, [], _++_}
 use mathlib.Core.Path.{_≡_, refl, sym, ap, ap₂, _∙_}
 use Prim.Native.Nat.{ℕ, _+_, _-_, _*_, _<_, _≤_}
 use native.Mathlib.Omega.{arith}
 use borrow.Rule.Slice.PartMut.{putMid}
 use lib.ListN.{length, take, drop, getD}
-use Rattle.std.proofs.shelf.Lists.{length-append, length-take, length-take-le, length-drop, getD-append-left, getD-append-right, getD-take, getD-drop, take-at, append-assoc, drop-drop}
+use Rattle.std.proofs.shelf.Lists.{length-append, length-take, length-take-le, length-drop, getD-append-left, getD-append-right, getD-take, getD-drop, take-at, append-assoc, drop-at, drop-drop, take-append-drop}
 use Rattle.map.specs.Bytes.{number4, placed}
 
 -- as the checker writes a write to a part
 pub placed-from-part : (at k : ℕ) (block bytes : List ℕ) → k ≡ length bytes → putMid at k block bytes ≡ placed at bytes block
 unfolding placed
 placed-from-part at k block bytes e = ap (λ tail. take at block ++ (bytes ++ tail)) (drop-drop k at block ∙ ap (λ n. drop (at + n) block) e)
+
+pub placed-nothing : (at : ℕ) (block : List ℕ) → placed at [] block ≡ block
+unfolding placed
+placed-nothing at block = ap (λ n. take at block ++ drop n block) (omega arith) ∙ take-append-drop at block
 
 module _ (at : ℕ) (bytes block : List ℕ) (within : at + length bytes ≤ length block) where
   front : length (take at block) ≡ at
@@ -51,7 +55,7 @@ module _ (at : ℕ) (bytes block : List ℕ) (within : at + length bytes ≤ len
   pub number-inside : (k : ℕ) → k + 4 ≤ length bytes → number4 (placed at bytes block) (at + k) ≡ number4 bytes k
   number-inside k h =
       let byte : (j : ℕ) → j < 4 → getD (placed at bytes block) (at + k + j) 0 ≡ getD bytes (k + j) 0 =
-          λ j l. ap (λ n. getD (placed at bytes block) n 0) (omega arith) ∙ placed-inside (k + j) (omega arith) in
+      λ j l. ap (λ n. getD (placed at bytes block) n 0) (omega arith) ∙ placed-inside (k + j) (omega arith) in
       let first : getD (placed at bytes block) (at + k) 0 ≡ getD bytes k 0 = placed-inside k (omega arith) in
       ap₂ _+_ (ap₂ _+_ (ap₂ _+_ first (ap (λ x. x * 256) (byte 1 (omega arith)))) (ap (λ x. x * 65536) (byte 2 (omega arith)))) (ap (λ x. x * 16777216) (byte 3 (omega arith)))
 
@@ -59,7 +63,7 @@ module _ (at : ℕ) (bytes block : List ℕ) (within : at + length bytes ≤ len
   same-number : (j : ℕ) → ((i : ℕ) → i < 4 → getD (placed at bytes block) (j + i) 0 ≡ getD block (j + i) 0) → number4 (placed at bytes block) j ≡ number4 block j
   same-number j byte =
       let first : getD (placed at bytes block) j 0 ≡ getD block j 0 =
-          ap (λ n. getD (placed at bytes block) n 0) (omega arith) ∙ byte 0 (omega arith) ∙ ap (λ n. getD block n 0) (omega arith) in
+      ap (λ n. getD (placed at bytes block) n 0) (omega arith) ∙ byte 0 (omega arith) ∙ ap (λ n. getD block n 0) (omega arith) in
       ap₂ _+_ (ap₂ _+_ (ap₂ _+_ first (ap (λ x. x * 256) (byte 1 (omega arith)))) (ap (λ x. x * 65536) (byte 2 (omega arith)))) (ap (λ x. x * 16777216) (byte 3 (omega arith)))
 
   pub number-below : (j : ℕ) → j + 4 ≤ at → number4 (placed at bytes block) j ≡ number4 block j
@@ -67,3 +71,24 @@ module _ (at : ℕ) (bytes block : List ℕ) (within : at + length bytes ≤ len
 
   pub number-above : (j : ℕ) → at + length bytes ≤ j → number4 (placed at bytes block) j ≡ number4 block j
   number-above j h = same-number j (λ i l. placed-above (j + i) (omega arith))
+
+  drop-placed : (m : ℕ) → drop (at + length bytes + m) (placed at bytes block) ≡ drop (at + length bytes + m) block
+  unfolding placed
+  drop-placed m =
+      let rest = drop (at + length bytes) block in
+      let past : drop (at + length bytes) (take at block ++ (bytes ++ rest)) ≡ rest =
+      ap (drop (at + length bytes)) (sym (append-assoc (take at block) bytes rest))
+      ∙ drop-at (take at block ++ bytes) rest (at + length bytes) (length-append (take at block) bytes ∙ omega (arith, front)) in
+      sym (drop-drop m (at + length bytes) (take at block ++ (bytes ++ rest))) ∙ ap (drop m) past ∙ drop-drop m (at + length bytes) block
+
+  -- more bytes, right behind those that were put
+  pub placed-on : (more : List ℕ) → placed (at + length bytes) more (placed at bytes block) ≡ placed at (bytes ++ more) block
+  unfolding placed
+  placed-on more =
+      ap₂ (λ xs ys. xs ++ (more ++ ys)) take-placed (drop-placed (length more))
+      ∙ append-assoc (take at block) bytes (more ++ drop (at + length bytes + length more) block)
+      ∙ ap (λ xs. take at block ++ xs) (sym (append-assoc bytes more (drop (at + length bytes + length more) block)))
+      ∙ ap (λ n. take at block ++ (bytes ++ more ++ drop n block)) (sum-of at (length bytes) (length more) (length (bytes ++ more)) (length-append bytes more))
+    where
+      sum-of : (a b c d : ℕ) → d ≡ b + c → a + b + c ≡ a + d
+      sum-of a b c d e = omega arith

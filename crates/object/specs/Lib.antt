@@ -1,2 +1,3 @@
 pub mod Indexes
+pub mod Roots
 pub mod Words

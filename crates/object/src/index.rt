@@ -45,5 +45,4 @@ pub fn set_index_entry(block: &mut [u8; 512], e: u16, id: Option<Identifier>)
 /// An entry that is written is read again, and the others stay.
 pub fn index_entries_return()
     ensures { λ _. ⌜ Entries-return ⌝ }
-{
-}
+{}

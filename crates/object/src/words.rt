@@ -56,5 +56,4 @@ pub fn replace_words(block: &mut [u8; 512], first: usize, new: &[u16]) -> bool
 /// Bytes read as words and written again are the same, and so are words.
 pub fn words_return()
     ensures { λ _. ⌜ Words-return ⌝ }
-{
-}
+{}

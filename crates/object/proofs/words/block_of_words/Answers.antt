@@ -17,9 +17,10 @@ loop-i-again c =
     let room : 2 * i + 2 ≤ length block = omega (arith, c .loop-i .inv .0) in
     let within : i < length words = omega (arith, c .told-words) in
     let put : c .put-bytes .last .block ≡ placed (2 * i) (le2 (getD words i 0)) block =
-        c .put-bytes .ensures ∙ ap (λ xs. placed (2 * i) xs block) (c .to-le-bytes .ensures) in
-    (ap length put ∙ placed-length (2 * i) (le2 (getD words i 0)) block (omega arith) ∙ c .loop-i .inv .0,
-     ap (take (2 * (i + 1))) put ∙ bytes-more words block i within room (c .loop-i .inv .1))
+    c .put-bytes .ensures ∙ ap (λ xs. placed (2 * i) xs block) (c .to-le-bytes .ensures) in (
+      ap length put ∙ placed-length (2 * i) (le2 (getD words i 0)) block (omega arith) ∙ c .loop-i .inv .0,
+      ap (take (2 * (i + 1))) put ∙ bytes-more words block i within room (c .loop-i .inv .1),
+    )
 
 pub returns : need.returns
 returns c =

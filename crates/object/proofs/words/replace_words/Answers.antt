@@ -28,4 +28,5 @@ returns c =
     record {
       value = sym (le-leb (c .args .first + length new) 256 (omega arith));
       after = c .loop-k .inv ∙ ap (paste start (c .args .first) new) all ∙ paste-all start (c .args .first) new (length new) refl;
-      same = λ e. absurd (true≢false e) }
+      same = λ e. absurd (true≢false e);
+    }

@@ -14,9 +14,10 @@ loop-i-again c =
     let words = c .loop-i .words in
     let i = c .loop-i .i in
     let within : i < length words = omega (arith, c .loop-i .inv .0) in
-    let put = c .from-le-bytes .result in
-    (length-set words i put ∙ c .loop-i .inv .0,
-     rw (c .from-le-bytes .ensures) (fill-by-more (word-at (c .args .block .now)) words i 0 within (c .loop-i .inv .1)))
+    let put = c .from-le-bytes .result in (
+      length-set words i put ∙ c .loop-i .inv .0,
+      rw (c .from-le-bytes .ensures) (fill-by-more (word-at (c .args .block .now)) words i 0 within (c .loop-i .inv .1)),
+    )
 
 pub returns : need.returns
 unfolding words-of
