@@ -12,14 +12,14 @@
 use mathlib.Core.Path.{_≡_}
 use mathlib.Core.Bool.{Bool, cond}
 use mathlib.Core.List.{List, [], _∷_, _++_}
-use Prim.Native.Nat.{ℕ, zero, suc, _+_, _<_, _≤_}
+use Prim.Native.Nat.{ℕ, _+_, _<_, _≤_}
 use lib.Dec.{eqb}
 use lib.ListN.{length, getD, replicate}
 use Rattle.std.specs.declared.option.Option.{Option}
 use Rattle.std.specs.declared.option.Option.the-variants.{Some, None}
-use Rattle.std.specs.Options.{mapped}
 use Rattle.std.specs.Orderings.{When}
 use Rattle.device.specs.Blocks.{Block, block-at}
+use Rattle.device.specs.Gathers.{gathered}
 use Rattle.device.specs.Plans.{Write, write, wrote, Cut-in}
 use Rattle.saving.specs.declared.outcome.Outcome.{Outcome}
 use Rattle.saving.specs.declared.outcome.Outcome.the-variants as outcome
@@ -45,13 +45,12 @@ abbrev pub marker-of : Block → Marker
 marker-of Block.unreadable = marker.Unreadable
 marker-of (Block.readable bytes) = cond (eqb (getD bytes 0 0) 0) marker.Missing marker.There
 
-abbrev pub joined-on : Block → Option (List (List ℕ)) → Option (List (List ℕ))
-joined-on Block.unreadable rest = None
-joined-on (Block.readable bytes) rest = mapped (λ parts. bytes ∷ parts) rest
+abbrev pub bytes-in : Block → Option (List ℕ)
+bytes-in Block.unreadable = None
+bytes-in (Block.readable bytes) = Some bytes
 
-unfoldable pub loaded : List Block → ℕ → ℕ → Option (List (List ℕ))
-loaded blocks from zero = Some []
-loaded blocks from (suc n) = joined-on (block-at blocks from) (loaded blocks (from + 1) n)
+abbrev pub loaded : List Block → ℕ → ℕ → Option (List (List ℕ))
+loaded blocks from n = gathered (λ b. bytes-in (block-at blocks b)) from n
 
 abbrev pub recovers : Marker → Option (List (List ℕ)) → List Write
 recovers marker.Missing spare = []

@@ -7,8 +7,9 @@ use lib.ListN.{length, getD, set}
 use mathlib.Core.Logic.{_≢_}
 use Rattle.std.proofs.shelf.Lists.{length-set, getD-set-same, getD-set-other}
 use Rattle.device.specs.Blocks.{Block, block-at}
-use Rattle.saving.specs.Procedure.{loaded}
-use Rattle.saving.proofs.Loading.{loaded-all, loaded-none, unread}
+use Rattle.device.specs.Gathers.{gathered-all, gathered-none}
+use Rattle.saving.specs.Procedure.{bytes-in, loaded}
+use Rattle.saving.proofs.Loading.{unread}
 use Rattle.saving.proofs.procedure.load.Needs as need
 
 pub returns-in-rest : need.returns-in-rest
@@ -16,8 +17,8 @@ returns-in-rest g c =
     let blocks = g .D·Device .blocks (c .args .device .now) in
     let at = c .args .from + c .loop-i .i in
     let within : at < length blocks = omega arith in
-    sym (loaded-none blocks 8 (c .args .from) (c .loop-i .i) (omega arith)
-    (unread blocks (g .D·Device .lit (c .args .device .now)) at (c .read .result) _ (c .read .last .buffer) within (c .pre .1 .1) (c .in-rest .not-Done) (c .read .ensures)))
+    sym (gathered-none (λ b. bytes-in (block-at blocks b)) 8 (c .args .from) (c .loop-i .i) (omega arith)
+    (ap bytes-in (unread blocks (g .D·Device .lit (c .args .device .now)) at (c .read .result) _ (c .read .last .buffer) within (c .pre .1 .1) (c .in-rest .not-Done) (c .read .ensures))))
 
 pub loop-i-again : need.loop-i-again
 loop-i-again g c =
@@ -35,4 +36,4 @@ loop-i-again g c =
 pub returns : need.returns
 returns g c =
     let blocks = g .D·Device .blocks (c .args .device .now) in
-    sym (ap (loaded blocks (c .args .from)) (sym (c .loop-i .inv .0)) ∙ loaded-all blocks (c .loop-i .parts) (c .args .from) (λ k h. c .loop-i .inv .1 k (omega arith)))
+    sym (ap (loaded blocks (c .args .from)) (sym (c .loop-i .inv .0)) ∙ gathered-all (λ b. bytes-in (block-at blocks b)) [] (c .loop-i .parts) (c .args .from) (λ k h. ap bytes-in (c .loop-i .inv .1 k (omega arith))))
