@@ -1,0 +1,6 @@
+// What a volume means: which blocks count, what objects it shows, and the laws that make a cut harmless.
+mod laws;
+
+pub use laws::clearing_keeps_what_counts;
+pub use laws::intentions_keep_what_counts;
+pub use laws::settling_keeps_what_counts;
