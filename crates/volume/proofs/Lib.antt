@@ -1,1 +1,3 @@
+mod Committing
 mod Sameness
+mod Searching

@@ -1,4 +1,5 @@
 // The laws that make a cut harmless, each named by a function's contract.
+ghost use Rattle.volume.specs.Committing.{Commit-law, Removal-law};
 ghost use Rattle.volume.specs.Laws.{Settling-law, Clearing-law, Intention-law};
 
 /// Settling any of the maps, in any order, changes nothing that a restart would show.
@@ -14,4 +15,16 @@ pub fn clearing_keeps_what_counts()
 /// Intentions of objects whose commit bit is not set change nothing that a restart would show.
 pub fn intentions_keep_what_counts()
     ensures { λ _. ⌜ Intention-law ⌝ }
+{}
+
+/// Setting the commit bit of an object gives each of its positions the block that its intentions
+/// say, and changes no other object.
+pub fn commit_changes_one_object()
+    ensures { λ _. ⌜ Commit-law ⌝ }
+{}
+
+/// Setting the commit bit of a root place that is to be deallocated removes its object, and
+/// changes no other.
+pub fn removal_removes_one_object()
+    ensures { λ _. ⌜ Removal-law ⌝ }
 {}
