@@ -17,6 +17,7 @@ use Rattle.map.specs.declared.entry.RootState.the-variants as root-state
 use Rattle.map.specs.declared.kind.Kind.{Kind}
 use Rattle.volume.specs.Committing.{state-for, Never-in, Becomes, marked, with-bit, Others-stay, Committed, Commit-law, Removed, Removal-law}
 use Rattle.volume.specs.Counting.{Entries, remains-as, bit, has-tag, state-counts, counts, for-position, claims, counted-at, held}
+use Rattle.volume.proofs.Claims.{judged, own-claims, gone-claims}
 use Rattle.volume.proofs.Searching.{lowest-below, lowest-none, lowest-first}
 
 with-bit-at : (E : Entries) (r : ℕ) → with-bit r E r ≡ marked (E r)
@@ -67,62 +68,30 @@ others-stay E r = record {
   counted = λ n q p ne. lowest-below (claims (with-bit r E) q p) (claims E q p) n (λ a h. claims-after E r q p a ∙ other-claims E r q p ne (E a));
 }
 
--- what an entry of the object says of a position, by its state and the bit
-judged : Option DataState → Bool → Bool
-judged None commit = false
-judged (Some state) commit = state-counts state commit
-
--- an entry of an allocated object counts as its state and the object's bit say
-own-claims : (F : Entries) (r tag p : ℕ) (kind : Kind) (commit : Bool) → F r ≡ Root root-state.Allocated kind commit tag → (e : Entry) →
-    (for-position r p e && counts F e) ≡ judged (state-for r tag p e) commit
-unfolding judged
-own-claims F r tag p kind commit is Map = refl
-own-claims F r tag p kind commit is Free = refl
-own-claims F r tag p kind commit is (Root state k c t) = refl
-own-claims F r tag p kind commit is (Data state position owner) =
-    ⊎-elim
-    (λ (same : owner .root ≡ r).
-    let entry = ap F same ∙ is in
-    ap (λ e. (eqb (owner .root) r && eqb position p) && (has-tag (owner .tag) (remains-as e) && state-counts state (bit e))) entry
-    ∙ regroup (eqb (owner .root) r) (eqb position p) (eqb tag (owner .tag)))
-    (λ apart.
-    let off = ne-eqb (owner .root) r apart in
-    ap (λ t. (t && eqb position p) && counts F (Data state position owner)) off
-    ∙ sym (ap (λ t. judged (cond ((t && eqb position p) && eqb tag (owner .tag)) (Some state) None) commit) off))
-    (cases-eq (owner .root) r)
-  where
-    regroup : (x y z : Bool) → ((x && y) && (z && state-counts state commit)) ≡ judged (cond ((x && y) && z) (Some state) None) commit
-    regroup true true true = refl
-    regroup true true false = refl
-    regroup true false z = refl
-    regroup false y z = refl
-
 module _ (E : Entries) (n r tag : ℕ) (kind : Kind) (is : E r ≡ Root root-state.Allocated kind false tag) where
   set-bit : with-bit r E r ≡ Root root-state.Allocated kind true tag
   set-bit = with-bit-at E r ∙ ap marked is
 
   claim-before : (p a : ℕ) → claims E r p a ≡ judged (state-for r tag p (E a)) false
-  claim-before p a = own-claims E r tag p kind false is (E a)
+  claim-before p a = own-claims E r p (held kind tag) (ap remains-as is) (E a) ∙ ap (judged (state-for r tag p (E a))) (ap bit is)
 
   claim-after : (p a : ℕ) → claims (with-bit r E) r p a ≡ judged (state-for r tag p (E a)) true
-  claim-after p a = claims-after E r r p a ∙ own-claims (with-bit r E) r tag p kind true set-bit (E a)
+  claim-after p a =
+      claims-after E r r p a ∙ own-claims (with-bit r E) r p (held kind tag) (ap remains-as set-bit) (E a) ∙ ap (judged (state-for r tag p (E a))) (ap bit set-bit)
 
   same-judged : (o : Option DataState) → (o ≡ Some data-state.IntendingToAllocate → ⊥) → (o ≡ Some data-state.IntendingToDeallocate → ⊥) → judged o true ≡ judged o false
-  unfolding judged
   same-judged None no-new no-old = refl
   same-judged (Some data-state.Allocated) no-new no-old = refl
   same-judged (Some data-state.IntendingToAllocate) no-new no-old = absurd (no-new refl)
   same-judged (Some data-state.IntendingToDeallocate) no-new no-old = absurd (no-old refl)
 
   not-judged : (o : Option DataState) → (o ≡ Some data-state.Allocated → ⊥) → (o ≡ Some data-state.IntendingToAllocate → ⊥) → judged o true ≡ false
-  unfolding judged
   not-judged None no-held no-new = refl
   not-judged (Some data-state.Allocated) no-held no-new = absurd (no-held refl)
   not-judged (Some data-state.IntendingToAllocate) no-held no-new = absurd (no-new refl)
   not-judged (Some data-state.IntendingToDeallocate) no-held no-new = refl
 
   becomes : (p : ℕ) {o : Option ℕ} → Becomes E n r tag p o → counted-at (with-bit r E) n r p ≡ o
-  unfolding judged
   becomes p (Becomes.untouched no-new no-old) =
       lowest-below (claims (with-bit r E) r p) (claims E r p) n (λ a h. claim-after p a ∙ same-judged (state-for r tag p (E a)) (no-new a h) (no-old a h) ∙ sym (claim-before p a))
   becomes p (Becomes.renewed b within new no-held only) =
@@ -137,23 +106,6 @@ commit-law E n r tag kind is = record {
   position = λ p o b. becomes E n r tag kind is p b;
   others = others-stay E r;
 }
-
--- once the object is gone, nothing claims a position of it
-gone-claims : (F : Entries) (r p : ℕ) → remains-as (F r) ≡ None → (e : Entry) → (for-position r p e && counts F e) ≡ false
-gone-claims F r p gone Map = refl
-gone-claims F r p gone Free = refl
-gone-claims F r p gone (Root state k c t) = refl
-gone-claims F r p gone (Data state position owner) =
-    ⊎-elim
-    (λ (same : owner .root ≡ r).
-    let none = ap (λ q. remains-as (F q)) same ∙ gone in
-    ap (λ o. (eqb (owner .root) r && eqb position p) && (has-tag (owner .tag) o && state-counts state (bit (F (owner .root))))) none ∙ and-false (eqb (owner .root) r && eqb position p))
-    (λ apart. ap (λ t. (t && eqb position p) && counts F (Data state position owner)) (ne-eqb (owner .root) r apart))
-    (cases-eq (owner .root) r)
-  where
-    and-false : (x : Bool) → (x && false) ≡ false
-    and-false true = refl
-    and-false false = refl
 
 pub removal-law : Removal-law
 removal-law E n r tag kind is =

@@ -1,3 +1,4 @@
+mod Claims
 mod Committing
 mod Sameness
 mod Searching

@@ -2,7 +2,7 @@
 use mathlib.Core.Bool.{Bool, true, false, cond, not, _&&_}
 use mathlib.Core.List.{List, map}
 use mathlib.Core.Path.{_≡_, refl, sym, ap, ap₂, _∙_}
-use Prim.Native.Nat.{ℕ, zero, suc}
+use Prim.Native.Nat.{ℕ, _<_}
 use native.Mathlib.Omega.{arith}
 use Rattle.std.proofs.shelf.Tests.{and-parts}
 use Rattle.std.specs.Iters.{counting}
@@ -18,28 +18,23 @@ use Rattle.map.specs.declared.identifier.Identifier.{Identifier}
 use Rattle.map.specs.declared.kind.Kind.{Kind}
 use Rattle.volume.specs.Counting.{Entries, remains-as, bit, has-tag, state-counts, counts, for-position, claims, counted-at, address-or-0, counted-addresses, due-for, due}
 use Rattle.volume.specs.Laws.{Same, changed, Settling-law, At-rest, Clearing-law, Intends, Intention-law}
-use Rattle.volume.specs.Search.{lowest, or-else}
 use Rattle.volume.specs.Settling.{settled, cleared}
-
--- equal tests give equal finds
-pub lowest-same : (f g : ℕ → Bool) → ((a : ℕ) → f a ≡ g a) → (n : ℕ) → lowest f n ≡ lowest g n
-unfolding lowest
-lowest-same f g e zero = refl
-lowest-same f g e (suc n) = ap₂ (λ o t. or-else o (cond t (Some n) None)) (lowest-same f g e n) (e n)
+use Rattle.volume.proofs.Searching.{lowest-below}
 
 map-same : {X : Type 0} (f g : ℕ → X) → ((k : ℕ) → f k ≡ g k) → (ks : List ℕ) → map f ks ≡ map g ks
 map-same f g e List.[] = refl
 map-same f g e (List._∷_ k ks) = ap₂ List._∷_ (e k) (map-same f g e ks)
 
 -- the same objects and the same claims are all there is
-pub same-from-claims : (E E′ : Entries) → ((r : ℕ) → remains-as (E′ r) ≡ remains-as (E r)) → ((r p a : ℕ) → claims E′ r p a ≡ claims E r p a) → Same E E′
+pub same-from-claims : (n : ℕ) (E E′ : Entries) → ((r : ℕ) → r < n → remains-as (E′ r) ≡ remains-as (E r)) →
+    ((r p a : ℕ) → a < n → claims E′ r p a ≡ claims E r p a) → Same n E E′
 unfolding counted-addresses
-same-from-claims E E′ remains claim =
-    let counted = λ (n r p : ℕ). lowest-same (claims E′ r p) (claims E r p) (claim r p) n in
+same-from-claims n E E′ remains claim =
+    let counted = λ (r p : ℕ). lowest-below (claims E′ r p) (claims E r p) n (claim r p) in
     record {
       remains = remains;
       counted = counted;
-      owed = λ n r. ap₂ (due-for r) (map-same (λ p. address-or-0 (counted-at E′ n r p)) (λ p. address-or-0 (counted-at E n r p)) (λ p. ap address-or-0 (counted n r p)) (counting 0 64)) (remains r);
+      owed = λ r h. ap₂ (due-for r) (map-same (λ p. address-or-0 (counted-at E′ n r p)) (λ p. address-or-0 (counted-at E n r p)) (λ p. ap address-or-0 (counted r p)) (counting 0 64)) (remains r h);
     }
 
 -- an entry counts the same where every object and every bit is the same
@@ -99,11 +94,11 @@ settled-claims E r p (Data state position owner) = go (counts E (Data state posi
     go false h = sym (and-false fp)
 
 -- a change that keeps objects and bits, and what each entry claims, keeps everything
-same-from-entries : (E : Entries) (on : ℕ → Bool) (f : Entry → Entry) → ((e : Entry) → remains-as (f e) ≡ remains-as e) → ((e : Entry) → bit (f e) ≡ bit e) →
-    ((r p : ℕ) (e : Entry) → (for-position r p (f e) && counts E (f e)) ≡ (for-position r p e && counts E e)) → Same E (changed on f E)
-same-from-entries E on f objects bits claim =
-    same-from-claims E (changed on f E) remains
-    (λ r p a. ap (λ t. for-position r p (changed on f E a) && t) (counts-same E (changed on f E) remains same-bits (changed on f E a)) ∙ at r p a (on a))
+same-from-entries : (n : ℕ) (E : Entries) (on : ℕ → Bool) (f : Entry → Entry) → ((e : Entry) → remains-as (f e) ≡ remains-as e) → ((e : Entry) → bit (f e) ≡ bit e) →
+    ((r p : ℕ) (e : Entry) → (for-position r p (f e) && counts E (f e)) ≡ (for-position r p e && counts E e)) → Same n E (changed on f E)
+same-from-entries n E on f objects bits claim =
+    same-from-claims n E (changed on f E) (λ r h. remains r)
+    (λ r p a h. ap (λ t. for-position r p (changed on f E a) && t) (counts-same E (changed on f E) remains same-bits (changed on f E a)) ∙ at r p a (on a))
   where
     remains : (r : ℕ) → remains-as (changed on f E r) ≡ remains-as (E r)
     remains r = go (on r)
@@ -124,7 +119,7 @@ same-from-entries E on f objects bits claim =
     at r p a false = refl
 
 pub settling-law : Settling-law
-settling-law E on = same-from-entries E on (settled E) (settled-objects E) (settled-bits E) (settled-claims E)
+settling-law n E on = same-from-entries n E on (settled E) (settled-objects E) (settled-bits E) (settled-claims E)
 
 cleared-objects : (e : Entry) → remains-as (cleared e) ≡ remains-as e
 cleared-objects Map = refl
@@ -153,7 +148,7 @@ cleared-claims E E′ r p (Root root-state.IntendingToDeallocate kind false tag)
 cleared-claims E E′ r p (Data state position owner) same = ap (λ t. for-position r p (Data state position owner) && t) same
 
 pub clearing-law : Clearing-law
-clearing-law E on rest = same-from-claims E (changed on cleared E) remains (λ r p a. at r p a (on a))
+clearing-law n E on rest = same-from-claims n E (changed on cleared E) (λ r h. remains r) (λ r p a h. at r p a (on a))
   where
     remains : (r : ℕ) → remains-as (changed on cleared E r) ≡ remains-as (E r)
     remains r = go (on r)
@@ -191,7 +186,7 @@ intends-claims E r p (Intends.deallocates position owner h) =
     ap (λ t. fp && (named && not t)) h
 
 pub intention-law : Intention-law
-intention-law E E′ intends =
+intention-law n E E′ intends =
     let remains = λ (r : ℕ). intends-remains E (intends r) in
     let bits = λ (r : ℕ). intends-bit E (intends r) in
-    same-from-claims E E′ remains (λ r p a. ap (λ t. for-position r p (E′ a) && t) (counts-same E E′ remains bits (E′ a)) ∙ intends-claims E r p (intends a))
+    same-from-claims n E E′ (λ r h. remains r) (λ r p a h. ap (λ t. for-position r p (E′ a) && t) (counts-same E E′ remains bits (E′ a)) ∙ intends-claims E r p (intends a))

@@ -5,7 +5,7 @@
 --   Settling-law, Clearing-law, Intention-law
 use mathlib.Core.Bool.{Bool, true, false, cond}
 use mathlib.Core.Path.{_≡_}
-use Prim.Native.Nat.{ℕ}
+use Prim.Native.Nat.{ℕ, _<_}
 use Rattle.std.specs.declared.option.Option.{Option}
 use Rattle.map.specs.declared.entry.DataState.the-variants as data-state
 use Rattle.map.specs.declared.entry.Entry.{Entry}
@@ -15,18 +15,18 @@ use Rattle.object.specs.declared.root.RootBlock.{RootBlock}
 use Rattle.volume.specs.Counting.{Entries, remains-as, bit, claims, counted-at, due}
 use Rattle.volume.specs.Settling.{settled, cleared}
 
--- every object that remains, every position's block, and so every root block that is due
-pub record Same (E E′ : Entries) : Type 0 where
-  pub remains : (r : ℕ) → remains-as (E′ r) ≡ remains-as (E r)
-  pub counted : (n r p : ℕ) → counted-at E′ n r p ≡ counted-at E n r p
-  pub owed : (n r : ℕ) → due E′ n r ≡ due E n r
+-- in a volume of n blocks: every object that remains, every position's block, and so every root block that is due
+pub record Same (n : ℕ) (E E′ : Entries) : Type 0 where
+  pub remains : (r : ℕ) → r < n → remains-as (E′ r) ≡ remains-as (E r)
+  pub counted : (r p : ℕ) → counted-at E′ n r p ≡ counted-at E n r p
+  pub owed : (r : ℕ) → r < n → due E′ n r ≡ due E n r
 
 abbrev pub changed : (ℕ → Bool) → (Entry → Entry) → Entries → Entries
 changed on f E a = cond (on a) (f (E a)) (E a)
 
 -- settling any of the maps, in any order, changes nothing that a restart would show
 abbrev pub Settling-law : Type 0
-Settling-law = (E : Entries) (on : ℕ → Bool) → Same E (changed on (settled E) E)
+Settling-law = (n : ℕ) (E : Entries) (on : ℕ → Bool) → Same n E (changed on (settled E) E)
 
 -- no data block is under an intention
 abbrev pub At-rest : Entry → Type 0
@@ -39,7 +39,7 @@ At-rest (Data data-state.IntendingToDeallocate position owner) = ⊥
 
 -- with no intention left in any map, clearing commit bits in any of the maps changes nothing either
 abbrev pub Clearing-law : Type 0
-Clearing-law = (E : Entries) (on : ℕ → Bool) → ((a : ℕ) → At-rest (E a)) → Same E (changed on cleared E)
+Clearing-law = (n : ℕ) (E : Entries) (on : ℕ → Bool) → ((a : ℕ) → At-rest (E a)) → Same n E (changed on cleared E)
 
 pub data Intends (E : Entries) : Entry → Entry → Type 0 where
   stays : {e : Entry} → Intends E e e
@@ -49,4 +49,4 @@ pub data Intends (E : Entries) : Entry → Entry → Type 0 where
 
 -- intentions of objects whose commit bit is not set change nothing
 abbrev pub Intention-law : Type 0
-Intention-law = (E E′ : Entries) → ((a : ℕ) → Intends E (E a) (E′ a)) → Same E E′
+Intention-law = (n : ℕ) (E E′ : Entries) → ((a : ℕ) → Intends E (E a) (E′ a)) → Same n E E′

@@ -1,5 +1,6 @@
 pub mod Committing
 pub mod Counting
 pub mod Laws
+pub mod Rebuilding
 pub mod Search
 pub mod Settling
