@@ -27,13 +27,13 @@ own-claims F r p object is (Root state k c t) = refl
 own-claims F r p object is (Data state position owner) =
     ⊎-elim
     (λ (same : owner .root ≡ r).
-      ap (λ q. (eqb (owner .root) r && eqb position p) && (has-tag (owner .tag) (remains-as (F q)) && state-counts state (bit (F q)))) same
-      ∙ ap (λ o. (eqb (owner .root) r && eqb position p) && (has-tag (owner .tag) o && state-counts state (bit (F r)))) is
-      ∙ regroup (eqb (owner .root) r) (eqb position p) (eqb (object .tag) (owner .tag)))
+    ap (λ q. (eqb (owner .root) r && eqb position p) && (has-tag (owner .tag) (remains-as (F q)) && state-counts state (bit (F q)))) same
+    ∙ ap (λ o. (eqb (owner .root) r && eqb position p) && (has-tag (owner .tag) o && state-counts state (bit (F r)))) is
+    ∙ regroup (eqb (owner .root) r) (eqb position p) (eqb (object .tag) (owner .tag)))
     (λ apart.
-      let off = ne-eqb (owner .root) r apart in
-      ap (λ t. (t && eqb position p) && counts F (Data state position owner)) off
-      ∙ sym (ap (λ t. judged (cond ((t && eqb position p) && eqb (object .tag) (owner .tag)) (Some state) None) (bit (F r))) off))
+    let off = ne-eqb (owner .root) r apart in
+    ap (λ t. (t && eqb position p) && counts F (Data state position owner)) off
+    ∙ sym (ap (λ t. judged (cond ((t && eqb position p) && eqb (object .tag) (owner .tag)) (Some state) None) (bit (F r))) off))
     (cases-eq (owner .root) r)
   where
     regroup : (x y z : Bool) → ((x && y) && (z && state-counts state (bit (F r)))) ≡ judged (cond ((x && y) && z) (Some state) None) (bit (F r))
@@ -58,4 +58,3 @@ gone-claims F r p gone (Data state position owner) =
     and-false : (x : Bool) → (x && false) ≡ false
     and-false true = refl
     and-false false = refl
-

@@ -1,4 +1,5 @@
 mod Claims
 mod Committing
+mod LostMap
 mod Sameness
 mod Searching

@@ -1,6 +1,7 @@
 // The laws that make a cut harmless, each named by a function's contract.
 ghost use Rattle.volume.specs.Committing.{Commit-law, Removal-law};
 ghost use Rattle.volume.specs.Laws.{Settling-law, Clearing-law, Intention-law};
+ghost use Rattle.volume.specs.Rebuilding.{Lost-map-law};
 
 /// Settling any of the maps, in any order, changes nothing that a restart would show.
 pub fn settling_keeps_what_counts()
@@ -27,4 +28,10 @@ pub fn commit_changes_one_object()
 /// changes no other.
 pub fn removal_removes_one_object()
     ensures { λ _. ⌜ Removal-law ⌝ }
+{}
+
+/// While root blocks agree with the maps, losing any one map changes nothing that a restart would
+/// show: the map that root blocks give back counts the same.
+pub fn lost_map_is_given_back()
+    ensures { λ _. ⌜ Lost-map-law ⌝ }
 {}
