@@ -11,15 +11,9 @@ use Rattle.std.specs.declared.option.Option.{Option}
 use Rattle.std.specs.declared.option.Option.the-variants.{Some, None}
 use Rattle.std.specs.shelf.Text.{sameBytes}
 use Rattle.map.specs.Checked.{checked}
+use Rattle.map.specs.EntryLaws.{encoded-length}
 use Rattle.map.specs.Entries.{encoded-entry, fits-entry, read-entry, decoded-entry}
 use Rattle.map.specs.declared.entry.Entry.{Entry}
-use Rattle.map.specs.declared.entry.Entry.the-variants.{Map, Free, Root, Data}
-
-pub encoded-length : (a : ℕ) (e : Entry) → length (encoded-entry a e) ≡ 16
-encoded-length a Map = refl
-encoded-length a Free = refl
-encoded-length a (Root state kind commit tag) = refl
-encoded-length a (Data state position owner) = refl
 
 unlike : (a : ℕ) (bytes : List ℕ) (e : Entry) → (length bytes ≡ 16 → ⊥) → sameBytes (encoded-entry a e) bytes ≡ false
 unlike a bytes e h =

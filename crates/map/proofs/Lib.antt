@@ -1,3 +1,1 @@
 mod Entries
-mod Maps
-mod RoundTrips

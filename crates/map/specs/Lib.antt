@@ -3,6 +3,8 @@ pub mod ByteLaws
 pub mod Bytes
 pub mod Checked
 pub mod Entries
+pub mod EntryLaws
 pub mod Examples
 pub mod Identifiers
+pub mod MapLaws
 pub mod Maps

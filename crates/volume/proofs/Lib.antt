@@ -1,5 +1,6 @@
 mod Claims
 mod Committing
 mod LostMap
+mod Reading
 mod Sameness
 mod Searching

@@ -4,3 +4,4 @@ pub mod Laws
 pub mod Rebuilding
 pub mod Search
 pub mod Settling
+pub mod Volume

@@ -6,7 +6,7 @@ use Rattle.std.proofs.shelf.Lists.{take-all}
 use Rattle.map.specs.Entries.{encoded-entry}
 use Rattle.map.specs.Maps.{encoded-from}
 use Rattle.map.specs.declared.entry.Entry.the-variants.{Map}
-use Rattle.map.proofs.Maps.{written-length, written-more}
+use Rattle.map.specs.MapLaws.{written-length, written-more}
 use Rattle.map.proofs.cylinder.encode_map.Needs as need
 
 pub loop-s-holds : need.loop-s-holds

@@ -1,4 +1,4 @@
-use Rattle.map.proofs.Maps.{map-bytes-return, map-entries-return}
+use Rattle.map.specs.MapLaws.{map-bytes-return, map-entries-return}
 use Rattle.map.proofs.cylinder.maps_return.Needs as need
 
 pub returns : need.returns

@@ -16,8 +16,7 @@ use Rattle.map.specs.Entries.{encoded-entry, decoded-entry, fits-entry, Named}
 use Rattle.map.specs.Maps.{entry-part, decoded-sector, decoded-map, encoded-from, encoded-map, Fitting, Map-bytes-return, Map-entries-return}
 use Rattle.map.specs.declared.entry.Entry.{Entry}
 use Rattle.map.specs.declared.entry.Entry.the-variants.{Map}
-use Rattle.map.proofs.Entries.{encoded-length}
-use Rattle.map.proofs.RoundTrips.{entry-bytes, entry-back, entry-named}
+use Rattle.map.specs.EntryLaws.{encoded-length, entry-bytes, entry-back, entry-named}
 
 pub encoded-from-length : (a : ℕ) (es : List Entry) → length (encoded-from a es) ≡ 16 * length es
 unfolding encoded-from

@@ -5,7 +5,7 @@ use mathlib.Core.Path.{_≡_, refl, sym, ap, ap₂, subst, _∙_}
 use Prim.Native.Nat.{ℕ, _+_, _*_, _/_, _%_, _^_, _<_, _≤_}
 use native.Mathlib.Omega.{arith}
 use lib.Dec.{eqb, ltb, leb}
-use lib.ListN.{getD}
+use lib.ListN.{length, getD}
 use Rattle.std.proofs.shelf.Tests.{and-parts, ltb-true, leb-true, eqb-true, ne-eqb, eq-eqb, lt-ltb, le-ltb}
 use Rattle.std.specs.declared.option.Option.{Option}
 use Rattle.std.specs.declared.option.Option.the-variants.{Some, None}
@@ -24,6 +24,12 @@ use Rattle.map.specs.declared.entry.RootState.the-variants as root-state
 use Rattle.map.specs.declared.identifier.Identifier.{Identifier}
 use Rattle.map.specs.declared.kind.Kind.{Kind}
 use Rattle.map.specs.declared.kind.Kind.the-variants as kind
+
+pub encoded-length : (a : ℕ) (e : Entry) → length (encoded-entry a e) ≡ 16
+encoded-length a Map = refl
+encoded-length a Free = refl
+encoded-length a (Root state kind commit tag) = refl
+encoded-length a (Data state position owner) = refl
 
 -- read and written again: the same bytes
 pub entry-bytes : (cylinders a : ℕ) (bytes : List ℕ) (e : Entry) → decoded-entry cylinders a bytes ≡ Some e → (encoded-entry a e ≡ bytes) × (fits-entry cylinders a e ≡ true)
