@@ -4,3 +4,4 @@ mod LostMap
 mod Reading
 mod Sameness
 mod Searching
+mod Stores

@@ -34,13 +34,13 @@ use Rattle.volume.proofs.Sameness.{same-from-claims}
 use Rattle.volume.proofs.Searching.{lowest-below, lowest-none, lowest-finds, lowest-only, any-true, any-false}
 
 -- where a data entry stands, and whom it names
-record Data-fits (cylinders a p : ℕ) (owner : Identifier) : Type 0 where
-  place : 5 ≤ sector-of a
-  few : p < 64
-  root : root-place (owner .root) ≡ true
-  within : owner .root < 32 * cylinders
+pub record Data-fits (cylinders a p : ℕ) (owner : Identifier) : Type 0 where
+  pub place : 5 ≤ sector-of a
+  pub few : p < 64
+  pub root : root-place (owner .root) ≡ true
+  pub within : owner .root < 32 * cylinders
 
-data-fits : (cylinders a p : ℕ) (state : DataState) (owner : Identifier) → fits-entry cylinders a (Data state p owner) ≡ true → Named (Data state p owner) → Data-fits cylinders a p owner
+pub data-fits : (cylinders a p : ℕ) (state : DataState) (owner : Identifier) → fits-entry cylinders a (Data state p owner) ≡ true → Named (Data state p owner) → Data-fits cylinders a p owner
 data-fits cylinders a p state owner fits named =
     let parts = and-parts (leb 5 (sector-of a) && ltb p 64) (ltb (cylinder-of (owner .root)) cylinders) fits in
     let place = and-parts (leb 5 (sector-of a)) (ltb p 64) (parts .0) in
@@ -54,7 +54,7 @@ data-fits cylinders a p state owner fits named =
     }
 
 -- an entry that claims a position is a data entry for it
-claim-for : (E : Entries) (r p : ℕ) (e : Entry) → (for-position r p e && counts E e) ≡ true →
+pub claim-for : (E : Entries) (r p : ℕ) (e : Entry) → (for-position r p e && counts E e) ≡ true →
     (state : DataState) × ((owner : Identifier) × (e ≡ Data state p owner) × (owner .root ≡ r) × (counts E e ≡ true))
 claim-for E r p Map h = absurd (true≢false (sym h))
 claim-for E r p Free h = absurd (true≢false (sym h))

@@ -35,8 +35,10 @@ entry-fits blocks a entries is = by (block-at blocks (32 * cylinder-of a)) is
   where
     joined : 32 * cylinder-of a + sector-of a ≡ a
     joined = omega arith
+
     at : entry-at blocks a ≡ getD entries (sector-of a) Map
     at = ap (λ o. entry-in o (sector-of a)) is
+
     by : (b : Block) → map-in (cylinders-of blocks) (cylinder-of a) b ≡ Some entries → (fits-entry (cylinders-of blocks) a (entry-at blocks a) ≡ true) × Named (entry-at blocks a)
     by Block.unreadable f = absurd (let z : _≡_ {A = ℕ} 0 1 = cc in omega arith)
     by (Block.readable bytes) f =

@@ -4,4 +4,5 @@ pub mod Laws
 pub mod Rebuilding
 pub mod Search
 pub mod Settling
+pub mod Stores
 pub mod Volume

@@ -2,7 +2,7 @@
 --   cylinders-of    how many cylinders there are
 --   map-at          the entries of a cylinder's map, if it can be read and is well formed
 --   entry-at        the entry of an address; free where the map cannot be used
---   root-at         the root block at an address, if it can be read and is well formed
+--   root-at         the root block at a root place, if it can be read and is well formed
 --   lost-map        the lowest cylinder whose map cannot be read
 --   restart-entries the entries that a restart goes by: those of the maps, a lost one rebuilt
 --   Object          what an object shows: its kind and tag, and each position's words or that it is unreadable
@@ -52,7 +52,7 @@ root-in cylinders a Block.unreadable = None
 root-in cylinders a (Block.readable bytes) = decoded-root cylinders a bytes
 
 abbrev pub root-at : List Block → RootBlocks
-root-at blocks a = root-in (cylinders-of blocks) a (block-at blocks a)
+root-at blocks a = cond (root-place a) (root-in (cylinders-of blocks) a (block-at blocks a)) None
 
 abbrev pub is-unreadable : Block → Bool
 is-unreadable Block.unreadable = true

@@ -2,6 +2,7 @@
 ghost use Rattle.volume.specs.Committing.{Commit-law, Removal-law};
 ghost use Rattle.volume.specs.Laws.{Settling-law, Clearing-law, Intention-law};
 ghost use Rattle.volume.specs.Rebuilding.{Lost-map-law};
+ghost use Rattle.volume.specs.Stores.{Data-block-law, Free-block-law, Root-block-law};
 
 /// Settling any of the maps, in any order, changes nothing that a restart would show.
 pub fn settling_keeps_what_counts()
@@ -34,4 +35,17 @@ pub fn removal_removes_one_object()
 /// show: the map that root blocks give back counts the same.
 pub fn lost_map_is_given_back()
     ensures { λ _. ⌜ Lost-map-law ⌝ }
+{}
+
+/// A store at a data block, however it ends, changes what the positions show that the block counts
+/// for, and nothing else; at a block that counts for none it changes nothing.
+pub fn data_store_changes_one_block()
+    ensures counts { λ _. ⌜ Data-block-law ⌝ }
+    ensures free { λ _. ⌜ Free-block-law ⌝ }
+{}
+
+/// While every map can be read, a store at a root place, however it ends, changes nothing that a
+/// restart would show.
+pub fn root_store_changes_nothing()
+    ensures { λ _. ⌜ Root-block-law ⌝ }
 {}
