@@ -64,7 +64,7 @@ claim-for E r p (Data state position owner) h =
     let place = and-parts (eqb (owner .root) r) (eqb position p) (parts .0) in
     (state, (owner, ap (λ q. Data state q owner) (eqb-true position p (place .1)), eqb-true (owner .root) r (place .0), parts .1))
 
-address-at : (E : Entries) (n r p : ℕ) → p < 64 → getD (counted-addresses E n r) p 0 ≡ address-or-0 (counted-at E n r p)
+pub address-at : (E : Entries) (n r p : ℕ) → p < 64 → getD (counted-addresses E n r) p 0 ≡ address-or-0 (counted-at E n r p)
 unfolding counted-addresses
 address-at E n r p h = getD-map-counting (λ q. address-or-0 (counted-at E n r q)) 0 64 p p 0 h (omega arith)
 
@@ -95,7 +95,7 @@ module _ (E : Entries) (R : RootBlocks) (cylinders c : ℕ) (inside : c < cylind
           other (Some b) found = ne-eqb b a (λ e. true≢false (sym (lowest-finds (claims E r p) (32 * cylinders) b found .0) ∙ ap (claims E r p) e ∙ is))
 
   -- a root block holds an address for a position exactly if the address claims it
-  holds-is : (r p a : ℕ) → r < 32 * cylinders → root-place r ≡ true → p < 64 → a < 32 * cylinders → 0 < a → block-holds (R r) p a ≡ claims E r p a
+  pub holds-is : (r p a : ℕ) → r < 32 * cylinders → root-place r ≡ true → p < 64 → a < 32 * cylinders → 0 < a → block-holds (R r) p a ≡ claims E r p a
   holds-is r p a rh place ph h pos = ap (λ o. block-holds o p a) (agree r rh place) ∙ by (remains-as (E r)) refl
     where
       by : (o : Option Held) → remains-as (E r) ≡ o → block-holds (Some (due-for r (counted-addresses E (32 * cylinders) r) o)) p a ≡ claims E r p a

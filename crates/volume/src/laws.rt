@@ -1,6 +1,7 @@
 // The laws that make a cut harmless, each named by a function's contract.
 ghost use Rattle.volume.specs.Committing.{Commit-law, Removal-law};
 ghost use Rattle.volume.specs.Laws.{Settling-law, Clearing-law, Intention-law};
+ghost use Rattle.volume.specs.Meeting.{Meeting-law};
 ghost use Rattle.volume.specs.Rebuilding.{Lost-map-law};
 ghost use Rattle.volume.specs.Stores.{Data-block-law, Free-block-law, Root-block-law};
 
@@ -48,4 +49,10 @@ pub fn data_store_changes_one_block()
 /// restart would show.
 pub fn root_store_changes_nothing()
     ensures { λ _. ⌜ Root-block-law ⌝ }
+{}
+
+/// On a volume at rest, what a store reads through root blocks is what a restart would show, and a
+/// data block is allocated exactly when one root block holds it, at one position.
+pub fn volume_at_rest_shows_what_counts()
+    ensures { λ _. ⌜ Meeting-law ⌝ }
 {}

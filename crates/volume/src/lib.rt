@@ -9,3 +9,4 @@ pub use laws::lost_map_is_given_back;
 pub use laws::removal_removes_one_object;
 pub use laws::root_store_changes_nothing;
 pub use laws::settling_keeps_what_counts;
+pub use laws::volume_at_rest_shows_what_counts;
