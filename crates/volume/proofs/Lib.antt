@@ -1,6 +1,7 @@
 mod Claims
 mod Committing
 mod LostMap
+mod MapStores
 mod Meeting
 mod Reading
 mod Sameness

@@ -30,29 +30,15 @@ use Rattle.volume.specs.Rebuilding.{Agree, Fit-volume, Single-claims, block-ho
 use Rattle.volume.specs.Search.{lowest}
 use Rattle.volume.specs.Volume.{cylinders-of, map-in, map-at, entry-in, entry-at, root-in, root-at, is-unreadable, lost-map, entries-with, restart-entries, content, object-of, counted, some-address, live-object, existing, shown}
 use Rattle.volume.proofs.LostMap.{address-at, data-fits, claim-for, holds-is}
-use Rattle.volume.proofs.Reading.{entry-fits}
-use Rattle.volume.proofs.Searching.{lowest-none, lowest-finds}
+use Rattle.volume.proofs.Reading.{usable-none-lost, usable-fits}
+use Rattle.volume.proofs.Searching.{lowest-finds}
 
 module _ (blocks : List Block) (rest : Rest blocks) where
-  n : ℕ
-  n = 32 * cylinders-of blocks
-
-  -- every entry fits its address
   fit : Fit-volume (entry-at blocks) (cylinders-of blocks)
-  fit a h = let usable = rest .usable (cylinder-of a) (omega arith) in entry-fits blocks a (usable .0) (usable .1)
-
-  not-lost : (c : ℕ) → c < cylinders-of blocks → is-unreadable (block-at blocks (32 * c)) ≡ false
-  not-lost c h = by (block-at blocks (32 * c)) (rest .usable c h .0) (rest .usable c h .1)
-    where
-      by : (b : Block) (entries : List Entry) → map-in (cylinders-of blocks) c b ≡ Some entries → is-unreadable b ≡ false
-      by Block.unreadable entries is = absurd (let z : _≡_ {A = ℕ} 0 1 = cc in omega arith)
-      by (Block.readable bytes) entries is = refl
-
-  none-lost : lost-map blocks ≡ None
-  none-lost = lowest-none (λ c. is-unreadable (block-at blocks (32 * c))) (cylinders-of blocks) not-lost
+  fit = usable-fits blocks (rest .usable)
 
   counts-by-maps : restart-entries blocks ≡ entry-at blocks
-  counts-by-maps = ap (entries-with blocks) none-lost
+  counts-by-maps = ap (entries-with blocks) (usable-none-lost blocks (rest .usable))
 
   -- a counted block is a data block, for a position below 64
   counted-place : (r p b : ℕ) → counted-at (entry-at blocks) (32 * cylinders-of blocks) r p ≡ Some b → (0 < b) × (p < 64)

@@ -18,7 +18,10 @@ use Rattle.map.specs.Maps.{decoded-sector, decoded-map, entry-part}
 use Rattle.map.specs.declared.entry.Entry.{Entry}
 use Rattle.map.specs.declared.entry.Entry.the-variants.{Map, Free}
 use Rattle.map.specs.EntryLaws.{entry-bytes, entry-named}
-use Rattle.volume.specs.Volume.{cylinders-of, map-in, map-at, entry-in, entry-at}
+use Rattle.volume.specs.Meeting.{Usable}
+use Rattle.volume.specs.Rebuilding.{Fit-volume}
+use Rattle.volume.specs.Volume.{cylinders-of, map-in, map-at, entry-in, entry-at, is-unreadable, lost-map}
+use Rattle.volume.proofs.Searching.{lowest-none}
 
 -- what a decoded map says fits
 map-fits : (cylinders c : ℕ) (bytes : List ℕ) (entries : List Entry) → decoded-map cylinders c bytes ≡ Some entries → (s : ℕ) → s < 32 →
@@ -44,3 +47,18 @@ entry-fits blocks a entries is = by (block-at blocks (32 * cylinder-of a)) is
     by (Block.readable bytes) f =
         let fits = map-fits (cylinders-of blocks) (cylinder-of a) bytes entries f (sector-of a) (mod-below a 32 (omega arith)) in
         (ap₂ (fits-entry (cylinders-of blocks)) (sym joined) at ∙ fits .0, subst Named (sym at) (fits .1))
+
+-- where every map can be used, none is lost and every entry fits
+module _ (blocks : List Block) (usable : Usable blocks) where
+  pub usable-readable : (c : ℕ) → c < cylinders-of blocks → is-unreadable (block-at blocks (32 * c)) ≡ false
+  usable-readable c h = by (block-at blocks (32 * c)) (usable c h .0) (usable c h .1)
+    where
+      by : (b : Block) (entries : List Entry) → map-in (cylinders-of blocks) c b ≡ Some entries → is-unreadable b ≡ false
+      by Block.unreadable entries is = absurd (let z : _≡_ {A = ℕ} 0 1 = cc in omega arith)
+      by (Block.readable bytes) entries is = refl
+
+  pub usable-none-lost : lost-map blocks ≡ None
+  usable-none-lost = lowest-none (λ c. is-unreadable (block-at blocks (32 * c))) (cylinders-of blocks) usable-readable
+
+  pub usable-fits : Fit-volume (entry-at blocks) (cylinders-of blocks)
+  usable-fits a h = let map = usable (cylinder-of a) (omega arith) in entry-fits blocks a (map .0) (map .1)

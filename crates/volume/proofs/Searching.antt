@@ -65,3 +65,8 @@ pub any-false : (f : ℕ → Bool) (n : ℕ) → ((a : ℕ) → a < n → f a �
 unfolding any
 any-false f zero e = refl
 any-false f (suc n) e = or-from (any f n) (f n) (any-false f n (λ a h. e a (omega arith))) (e n (omega arith))
+
+pub any-same : (f g : ℕ → Bool) (n : ℕ) → ((a : ℕ) → f a ≡ g a) → any f n ≡ any g n
+unfolding any
+any-same f g zero e = refl
+any-same f g (suc n) e = ap₂ _||_ (any-same f g n e) (e n)

@@ -101,7 +101,7 @@ free-block-law blocks a x h high free =
     by (Some b) other = ap words-in (elsewhere blocks a x b (λ e. other (ap Some e)))
 
 -- what claims a position stands at a data block
-claim-place : (blocks : List Block) (r p b : ℕ) → claims (entry-at blocks) r p b ≡ true → 5 ≤ sector-of b
+pub claim-place : (blocks : List Block) (r p b : ℕ) → claims (entry-at blocks) r p b ≡ true → 5 ≤ sector-of b
 claim-place blocks r p b claim =
     let found = claim-for (entry-at blocks) r p (entry-at blocks b) claim in
     by (found .0) (found .1 .0) (found .1 .1) (map-at blocks (cylinder-of b)) refl

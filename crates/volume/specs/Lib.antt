@@ -1,6 +1,7 @@
 pub mod Committing
 pub mod Counting
 pub mod Laws
+pub mod MapStores
 pub mod Meeting
 pub mod Rebuilding
 pub mod Search
