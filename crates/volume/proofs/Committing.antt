@@ -15,8 +15,9 @@ use Rattle.map.specs.declared.entry.Entry.the-variants.{Map, Free, Root, Data}
 use Rattle.map.specs.declared.entry.RootState.{RootState}
 use Rattle.map.specs.declared.entry.RootState.the-variants as root-state
 use Rattle.map.specs.declared.kind.Kind.{Kind}
-use Rattle.volume.specs.Committing.{state-for, Never-in, Becomes, marked, with-bit, Others-stay, Committed, Commit-law, Removed, Removal-law}
+use Rattle.volume.specs.Committing.{state-for, Never-in, Becomes, marked, with-bit, Commit-law, Removal-law, with-object, Create-law}
 use Rattle.volume.specs.Counting.{Entries, remains-as, bit, has-tag, state-counts, counts, for-position, claims, counted-at, held}
+use Rattle.volume.proofs.OneRoot.{claims-judged, others-stay}
 use Rattle.volume.proofs.Claims.{judged, own-claims, gone-claims}
 use Rattle.volume.proofs.Searching.{lowest-below, lowest-none, lowest-first}
 
@@ -26,47 +27,9 @@ with-bit-at E r = ap (λ t. cond t (marked (E r)) (E r)) (eq-eqb r r refl)
 with-bit-other : (E : Entries) (r a : ℕ) → (a ≡ r → ⊥) → with-bit r E a ≡ E a
 with-bit-other E r a ne = ap (λ t. cond t (marked (E a)) (E a)) (ne-eqb a r ne)
 
--- marking changes no data entry
-marked-position : (q p : ℕ) (e : Entry) → for-position q p (marked e) ≡ for-position q p e
-marked-position q p Map = refl
-marked-position q p Free = refl
-marked-position q p (Root state kind commit tag) = refl
-marked-position q p (Data state position owner) = refl
-
-marked-counts : (E : Entries) (e : Entry) → counts E (marked e) ≡ counts E e
-marked-counts E Map = refl
-marked-counts E Free = refl
-marked-counts E (Root state kind commit tag) = refl
-marked-counts E (Data state position owner) = refl
-
--- so a claim after the bit is set is a claim of the entry as it was, judged by the new entries
-claims-after : (E : Entries) (r q p a : ℕ) → claims (with-bit r E) q p a ≡ (for-position q p (E a) && counts (with-bit r E) (E a))
-claims-after E r q p a = go (eqb a r)
-  where
-    go : (t : Bool) → (for-position q p (cond t (marked (E a)) (E a)) && counts (with-bit r E) (cond t (marked (E a)) (E a))) ≡ (for-position q p (E a) && counts (with-bit r E) (E a))
-    go true = ap₂ _&&_ (marked-position q p (E a)) (marked-counts (with-bit r E) (E a))
-    go false = refl
-
--- an entry for another object is judged by that object's root entry, which stays
-other-claims : (E : Entries) (r q p : ℕ) → (q ≡ r → ⊥) → (e : Entry) → (for-position q p e && counts (with-bit r E) e) ≡ (for-position q p e && counts E e)
-other-claims E r q p ne Map = refl
-other-claims E r q p ne Free = refl
-other-claims E r q p ne (Root state kind commit tag) = refl
-other-claims E r q p ne (Data state position owner) =
-    ⊎-elim
-    (λ (same : owner .root ≡ q).
-    let stays = with-bit-other E r (owner .root) (λ e. ne (sym same ∙ e)) in
-    ap (λ e. (eqb (owner .root) q && eqb position p) && (has-tag (owner .tag) (remains-as e) && state-counts state (bit e))) stays)
-    (λ apart.
-    let off = ne-eqb (owner .root) q apart in
-    ap (λ t. (t && eqb position p) && counts (with-bit r E) (Data state position owner)) off ∙ sym (ap (λ t. (t && eqb position p) && counts E (Data state position owner)) off))
-    (cases-eq (owner .root) q)
-
-others-stay : (E : Entries) (r : ℕ) → Others-stay r E (with-bit r E)
-others-stay E r = record {
-  remains = λ q ne. ap remains-as (with-bit-other E r q ne);
-  counted = λ n q p ne. lowest-below (claims (with-bit r E) q p) (claims E q p) n (λ a h. claims-after E r q p a ∙ other-claims E r q p ne (E a));
-}
+-- a root entry is no data entry, marked or not
+root-apart : (E : Entries) (r tag : ℕ) (state : RootState) (kind : Kind) (commit : Bool) → E r ≡ Root state kind commit tag → (q p : ℕ) → for-position q p (E r) ≡ false
+root-apart E r tag state kind commit is q p = ap (for-position q p) is
 
 module _ (E : Entries) (n r tag : ℕ) (kind : Kind) (is : E r ≡ Root root-state.Allocated kind false tag) where
   set-bit : with-bit r E r ≡ Root root-state.Allocated kind true tag
@@ -77,7 +40,7 @@ module _ (E : Entries) (n r tag : ℕ) (kind : Kind) (is : E r ≡ Root root-sta
 
   claim-after : (p a : ℕ) → claims (with-bit r E) r p a ≡ judged (state-for r tag p (E a)) true
   claim-after p a =
-      claims-after E r r p a ∙ own-claims (with-bit r E) r p (held kind tag) (ap remains-as set-bit) (E a) ∙ ap (judged (state-for r tag p (E a))) (ap bit set-bit)
+      claims-judged E (with-bit r E) r (with-bit-other E r) (root-apart E r tag root-state.Allocated kind false is) (root-apart (with-bit r E) r tag root-state.Allocated kind true set-bit) r p a ∙ own-claims (with-bit r E) r p (held kind tag) (ap remains-as set-bit) (E a) ∙ ap (judged (state-for r tag p (E a))) (ap bit set-bit)
 
   same-judged : (o : Option DataState) → (o ≡ Some data-state.IntendingToAllocate → ⊥) → (o ≡ Some data-state.IntendingToDeallocate → ⊥) → judged o true ≡ judged o false
   same-judged None no-new no-old = refl
@@ -104,14 +67,38 @@ pub commit-law : Commit-law
 commit-law E n r tag kind is = record {
   object = ap remains-as (set-bit E n r tag kind is) ∙ sym (ap remains-as is);
   position = λ p o b. becomes E n r tag kind is p b;
-  others = others-stay E r;
+  others = others-stay E (with-bit r E) r (with-bit-other E r) (root-apart E r tag root-state.Allocated kind false is) (root-apart (with-bit r E) r tag root-state.Allocated kind true (set-bit E n r tag kind is));
 }
 
 pub removal-law : Removal-law
 removal-law E n r tag kind is =
-    let gone : remains-as (with-bit r E r) ≡ None = ap remains-as (with-bit-at E r ∙ ap marked is) in
+    let set : with-bit r E r ≡ Root root-state.IntendingToDeallocate kind true tag = with-bit-at E r ∙ ap marked is in
+    let gone : remains-as (with-bit r E r) ≡ None = ap remains-as set in
+    let was = root-apart E r tag root-state.IntendingToDeallocate kind false is in
+    let now = root-apart (with-bit r E) r tag root-state.IntendingToDeallocate kind true set in
     record {
       object = gone;
-      position = λ p. lowest-none (claims (with-bit r E) r p) n (λ a h. claims-after E r r p a ∙ gone-claims (with-bit r E) r p gone (E a));
-      others = others-stay E r;
+      position = λ p. lowest-none (claims (with-bit r E) r p) n (λ a h. claims-judged E (with-bit r E) r (with-bit-other E r) was now r p a ∙ gone-claims (with-bit r E) r p gone (E a));
+      others = others-stay E (with-bit r E) r (with-bit-other E r) was now;
+    }
+
+with-object-at : (E : Entries) (r tag : ℕ) (kind : Kind) → with-object r kind tag E r ≡ Root root-state.Allocated kind false tag
+with-object-at E r tag kind = ap (λ t. cond t (Root root-state.Allocated kind false tag) (E r)) (eq-eqb r r refl)
+
+with-object-other : (E : Entries) (r tag : ℕ) (kind : Kind) (a : ℕ) → (a ≡ r → ⊥) → with-object r kind tag E a ≡ E a
+with-object-other E r tag kind a ne = ap (λ t. cond t (Root root-state.Allocated kind false tag) (E a)) (ne-eqb a r ne)
+
+pub create-law : Create-law
+create-law E n r tag kind free unnamed =
+    let there = with-object-at E r tag kind in
+    let was = λ (q p : ℕ). ap (for-position q p) free in
+    let now = root-apart (with-object r kind tag E) r tag root-state.Allocated kind false there in
+    let named = ap remains-as there in
+    record {
+      object = named;
+      position = λ p. lowest-none (claims (with-object r kind tag E) r p) n
+          (λ a h. claims-judged E (with-object r kind tag E) r (with-object-other E r tag kind) was now r p a
+          ∙ own-claims (with-object r kind tag E) r p (held kind tag) named (E a)
+          ∙ ap (λ o. judged o (bit (with-object r kind tag E r))) (unnamed p a h));
+      others = others-stay E (with-object r kind tag E) r (with-object-other E r tag kind) was now;
     }

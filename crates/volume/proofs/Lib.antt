@@ -3,6 +3,7 @@ mod Committing
 mod LostMap
 mod MapStores
 mod Meeting
+mod OneRoot
 mod Reading
 mod Sameness
 mod Searching

@@ -78,7 +78,7 @@ map-store-law blocks c bytes entries inside is = fun-ext (λ a. by a (eqb (cylin
         let same = eqb-true (cylinder-of a) c here in
         ap (λ o. entry-in o (sector-of a))
         (ap (map-at (set blocks (32 * c) (Block.readable bytes))) same
-          ∙ ap₂ (λ n b. map-in n c b) (same-cylinders blocks c (Block.readable bytes) inside) (map-here blocks c (Block.readable bytes) inside) ∙ is)
+        ∙ ap₂ (λ n b. map-in n c b) (same-cylinders blocks c (Block.readable bytes) inside) (map-here blocks c (Block.readable bytes) inside) ∙ is)
 
 module _ (blocks : List Block) (c : ℕ) (inside : c < cylinders-of blocks) (sound : Sound blocks) where
   torn : List Block
@@ -90,8 +90,8 @@ module _ (blocks : List Block) (c : ℕ) (inside : c < cylinders-of blocks) (sou
       (omega (arith, same-cylinders blocks c Block.unreadable inside))
       (ap is-unreadable (map-here blocks c Block.unreadable inside))
       (λ d h lost. ⊎-elim (λ (e : d ≡ c). e)
-        (λ ne. absurd (true≢false (sym lost ∙ ap is-unreadable (map-there blocks c Block.unreadable inside d ne) ∙ usable-readable blocks (sound .usable) d (omega (arith, same-cylinders blocks c Block.unreadable inside)))))
-        (cases-eq d c))
+      (λ ne. absurd (true≢false (sym lost ∙ ap is-unreadable (map-there blocks c Block.unreadable inside d ne) ∙ usable-readable blocks (sound .usable) d (omega (arith, same-cylinders blocks c Block.unreadable inside)))))
+      (cases-eq d c))
 
   same-roots : root-at (set blocks (32 * c) Block.unreadable) ≡ root-at blocks
   same-roots = fun-ext (λ r. by r (root-place r) refl)

@@ -1,8 +1,9 @@
--- Setting a commit bit: one object changes, as its intentions say, and nothing else.
+-- Setting a commit bit, and creating an object: one object changes, and nothing else.
 --   state-for   the state of an entry, if it is of this object, for this position
 --   Becomes     what a position's entries say of the block that it will have
 --   with-bit    the entries with the commit bit of one root place set
---   Commit-law, Removal-law
+--   with-object  the entries with a new object's root entry
+--   Commit-law, Removal-law, Create-law
 use mathlib.Core.Bool.{Bool, true, false, cond, _&&_}
 use mathlib.Core.Path.{_≡_}
 use Prim.Native.Nat.{ℕ, _<_}
@@ -15,7 +16,7 @@ use Rattle.map.specs.declared.entry.Entry.{Entry}
 use Rattle.map.specs.declared.entry.Entry.the-variants.{Map, Free, Root, Data}
 use Rattle.map.specs.declared.entry.RootState.the-variants as root-state
 use Rattle.map.specs.declared.kind.Kind.{Kind}
-use Rattle.volume.specs.Counting.{Entries, remains-as, counted-at}
+use Rattle.volume.specs.Counting.{Entries, held, remains-as, counted-at}
 
 abbrev pub state-for : ℕ → ℕ → ℕ → Entry → Option DataState
 state-for r tag p Map = None
@@ -66,3 +67,17 @@ pub record Removed (n r : ℕ) (E E′ : Entries) : Type 0 where
 
 abbrev pub Removal-law : Type 0
 Removal-law = (E : Entries) (n r tag : ℕ) (kind : Kind) → E r ≡ Root root-state.IntendingToDeallocate kind false tag → Removed n r E (with-bit r E)
+
+abbrev pub with-object : ℕ → Kind → ℕ → Entries → Entries
+with-object r kind tag E a = cond (eqb a r) (Root root-state.Allocated kind false tag) (E a)
+
+-- an object without blocks is there
+pub record Created (n r tag : ℕ) (kind : Kind) (E E′ : Entries) : Type 0 where
+  pub object : remains-as (E′ r) ≡ Some (held kind tag)
+  pub position : (p : ℕ) → counted-at E′ n r p ≡ None
+  pub others : Others-stay r E E′
+
+-- a root entry at a free place, whose identifier no data entry names, makes an empty object and changes no other
+abbrev pub Create-law : Type 0
+Create-law = (E : Entries) (n r tag : ℕ) (kind : Kind) → E r ≡ Free → ((p a : ℕ) → a < n → state-for r tag p (E a) ≡ None) →
+    Created n r tag kind E (with-object r kind tag E)

@@ -1,6 +1,7 @@
 // The laws that make a cut harmless, each named by a function's contract.
-ghost use Rattle.volume.specs.Committing.{Commit-law, Removal-law};
+ghost use Rattle.volume.specs.Committing.{Commit-law, Removal-law, Create-law};
 ghost use Rattle.volume.specs.Laws.{Settling-law, Clearing-law, Intention-law};
+ghost use Rattle.volume.specs.MapStores.{Torn-map-law, Map-store-law};
 ghost use Rattle.volume.specs.Meeting.{Meeting-law};
 ghost use Rattle.volume.specs.Rebuilding.{Lost-map-law};
 ghost use Rattle.volume.specs.Stores.{Data-block-law, Free-block-law, Root-block-law};
@@ -55,4 +56,16 @@ pub fn root_store_changes_nothing()
 /// data block is allocated exactly when one root block holds it, at one position.
 pub fn volume_at_rest_shows_what_counts()
     ensures { λ _. ⌜ Meeting-law ⌝ }
+{}
+
+/// A root entry at a free root place makes an empty object and changes no other.
+pub fn create_adds_one_object()
+    ensures { λ _. ⌜ Create-law ⌝ }
+{}
+
+/// A map that is stored whole changes its own cylinder's entries; one that is torn from a sound
+/// volume changes nothing that a restart would show.
+pub fn map_store_is_whole_or_harmless()
+    ensures whole { λ _. ⌜ Map-store-law ⌝ }
+    ensures torn { λ _. ⌜ Torn-map-law ⌝ }
 {}

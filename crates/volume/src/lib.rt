@@ -3,9 +3,11 @@ mod laws;
 
 pub use laws::clearing_keeps_what_counts;
 pub use laws::commit_changes_one_object;
+pub use laws::create_adds_one_object;
 pub use laws::data_store_changes_one_block;
 pub use laws::intentions_keep_what_counts;
 pub use laws::lost_map_is_given_back;
+pub use laws::map_store_is_whole_or_harmless;
 pub use laws::removal_removes_one_object;
 pub use laws::root_store_changes_nothing;
 pub use laws::settling_keeps_what_counts;
