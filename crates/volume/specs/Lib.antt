@@ -7,4 +7,5 @@ pub mod Rebuilding
 pub mod Search
 pub mod Settling
 pub mod Stores
+pub mod Tables
 pub mod Volume

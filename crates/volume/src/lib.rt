@@ -1,5 +1,6 @@
 // What a volume means: which blocks count, what objects it shows, and the laws that make a cut harmless.
 mod laws;
+mod settle;
 
 pub use laws::clearing_keeps_what_counts;
 pub use laws::commit_changes_one_object;
@@ -12,3 +13,8 @@ pub use laws::removal_removes_one_object;
 pub use laws::root_store_changes_nothing;
 pub use laws::settling_keeps_what_counts;
 pub use laws::volume_at_rest_shows_what_counts;
+pub use settle::clear_entry;
+pub use settle::clear_map;
+pub use settle::entry_counts;
+pub use settle::settle_entry;
+pub use settle::settle_map;
