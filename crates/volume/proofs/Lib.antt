@@ -5,6 +5,7 @@ mod MapStores
 mod Meeting
 mod OneRoot
 mod Reading
+mod Repeating
 mod Sameness
 mod Searching
 mod Stores

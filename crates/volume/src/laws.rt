@@ -4,6 +4,7 @@ ghost use Rattle.volume.specs.Laws.{Settling-law, Clearing-law, Intention-law}
 ghost use Rattle.volume.specs.MapStores.{Torn-map-law, Map-store-law};
 ghost use Rattle.volume.specs.Meeting.{Meeting-law};
 ghost use Rattle.volume.specs.Rebuilding.{Lost-map-law};
+ghost use Rattle.volume.specs.Repeating.{Once, Lost-accepted};
 ghost use Rattle.volume.specs.Stores.{Data-block-law, Free-block-law, Root-block-law};
 
 /// Settling any of the maps, in any order, changes nothing that a restart would show.
@@ -68,4 +69,15 @@ pub fn create_adds_one_object()
 pub fn map_store_is_whole_or_harmless()
     ensures whole { λ _. ⌜ Map-store-law ⌝ }
     ensures torn { λ _. ⌜ Torn-map-law ⌝ }
+{}
+
+/// Settling, clearing or rebuilding a second time changes nothing.
+pub fn twice_is_once()
+    ensures { λ _. ⌜ Once ⌝ }
+{}
+
+/// Of a sound volume every root block can be used and no address is held twice, so whichever map is
+/// lost can be rebuilt.
+pub fn sound_volume_can_be_rebuilt()
+    ensures { λ _. ⌜ Lost-accepted ⌝ }
 {}
