@@ -10,3 +10,4 @@ pub mod Settling
 pub mod Stores
 pub mod Tables
 pub mod Volume
+pub mod Worked

@@ -1,6 +1,7 @@
 // What a volume means: which blocks count, what objects it shows, and the laws that make a cut harmless.
 mod laws;
 mod settle;
+mod worked;
 
 pub use laws::clearing_keeps_what_counts;
 pub use laws::commit_changes_one_object;
@@ -20,3 +21,4 @@ pub use settle::clear_map;
 pub use settle::entry_counts;
 pub use settle::settle_entry;
 pub use settle::settle_map;
+pub use worked::worked_save_holds;

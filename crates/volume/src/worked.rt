@@ -1,0 +1,9 @@
+// A worked save, computed from the definitions.
+ghost use Rattle.volume.specs.Worked.{Save-worked, Shortcuts-fail};
+
+/// A save across two cylinders: what counts at each step, and with either map lost. And three
+/// shortcuts that would mix two saves.
+pub fn worked_save_holds()
+    ensures save { λ _. ⌜ Save-worked ⌝ }
+    ensures shortcuts { λ _. ⌜ Shortcuts-fail ⌝ }
+{}
