@@ -5,6 +5,7 @@ mod MapStores
 mod Meeting
 mod OneRoot
 mod Reading
+mod Recoverable
 mod Repeating
 mod Sameness
 mod Searching

@@ -31,7 +31,7 @@ module _ (blocks : List Block) (a : ℕ) (x : Block) where
   same-cylinders : cylinders-of (set blocks a x) ≡ cylinders-of blocks
   same-cylinders = ap (λ n. n / 32) (length-set blocks a x)
 
-  elsewhere : (b : ℕ) → b ≢ a → block-at (set blocks a x) b ≡ block-at blocks b
+  pub elsewhere : (b : ℕ) → b ≢ a → block-at (set blocks a x) b ≡ block-at blocks b
   elsewhere b ne = getD-set-other blocks a b x Block.unreadable ne
 
   -- a store past sector 0 leaves every map
@@ -39,10 +39,10 @@ module _ (blocks : List Block) (a : ℕ) (x : Block) where
     map-block : (c : ℕ) → block-at (set blocks a x) (32 * c) ≡ block-at blocks (32 * c)
     map-block c = elsewhere (32 * c) (λ e. let s : 32 * c % 32 ≡ a % 32 = ap (λ n. n % 32) e in omega arith)
 
-    same-map : (c : ℕ) → map-at (set blocks a x) c ≡ map-at blocks c
+    pub same-map : (c : ℕ) → map-at (set blocks a x) c ≡ map-at blocks c
     same-map c = ap₂ (λ n b. map-in n c b) same-cylinders (map-block c)
 
-    same-entries : entry-at (set blocks a x) ≡ entry-at blocks
+    pub same-entries : entry-at (set blocks a x) ≡ entry-at blocks
     same-entries = fun-ext (λ b. ap (λ o. entry-in o (sector-of b)) (same-map (cylinder-of b)))
 
     same-lost : lost-map (set blocks a x) ≡ lost-map blocks

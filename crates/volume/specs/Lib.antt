@@ -4,6 +4,7 @@ pub mod Laws
 pub mod MapStores
 pub mod Meeting
 pub mod Rebuilding
+pub mod Recoverable
 pub mod Repeating
 pub mod Search
 pub mod Settling

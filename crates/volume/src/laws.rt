@@ -4,6 +4,7 @@ ghost use Rattle.volume.specs.Laws.{Settling-law, Clearing-law, Intention-law}
 ghost use Rattle.volume.specs.MapStores.{Torn-map-law, Map-store-law};
 ghost use Rattle.volume.specs.Meeting.{Meeting-law};
 ghost use Rattle.volume.specs.Rebuilding.{Lost-map-law};
+ghost use Rattle.volume.specs.Recoverable.{Kept-by-stores};
 ghost use Rattle.volume.specs.Repeating.{Once, Lost-accepted};
 ghost use Rattle.volume.specs.Stores.{Data-block-law, Free-block-law, Root-block-law};
 
@@ -81,3 +82,10 @@ pub fn twice_is_once()
 pub fn sound_volume_can_be_rebuilt()
     ensures { λ _. ⌜ Lost-accepted ⌝ }
 {}
+
+/// Tearing a map, or any store at a root place or at a data block that counts for nothing, keeps a
+/// volume recoverable, with the same objects.
+pub fn stores_keep_a_volume_recoverable()
+    ensures { λ _. ⌜ Kept-by-stores ⌝ }
+{
+}

@@ -14,6 +14,7 @@ pub use laws::removal_removes_one_object;
 pub use laws::root_store_changes_nothing;
 pub use laws::settling_keeps_what_counts;
 pub use laws::sound_volume_can_be_rebuilt;
+pub use laws::stores_keep_a_volume_recoverable;
 pub use laws::twice_is_once;
 pub use laws::volume_at_rest_shows_what_counts;
 pub use settle::clear_entry;
