@@ -39,8 +39,8 @@ module _ (blocks : List Block) (a : ℕ) (x : Block) (past : 0 < sector-of a) (c
     usable = λ c h. let map = complete .usable c (rw (← cylinders) h) in (map .0, same-map blocks a x past c ∙ map .1);
     single = λ r p b d hb hd one two. complete .single r p b d (rw (← cylinders) hb) (rw (← cylinders) hd) (ap (λ E. claims E r p b) (sym same) ∙ one) (ap (λ E. claims E r p d) (sym same) ∙ two);
     indexes = λ r p b object is kinds found.
-      let before : counted-at (entry-at blocks) (32 * cylinders-of blocks) r p ≡ Some b = ap₂ (λ E n. counted-at E (32 * n) r p) (sym same) (sym cylinders) ∙ found in
-      ap is-unreadable (elsewhere blocks a x b (λ e. uncounted r p (before ∙ ap Some e))) ∙ complete .indexes r p b object (ap (λ E. remains-as (E r)) (sym same) ∙ is) kinds before;
+        let before : counted-at (entry-at blocks) (32 * cylinders-of blocks) r p ≡ Some b = ap₂ (λ E n. counted-at E (32 * n) r p) (sym same) (sym cylinders) ∙ found in
+        ap is-unreadable (elsewhere blocks a x b (λ e. uncounted r p (before ∙ ap Some e))) ∙ complete .indexes r p b object (ap (λ E. remains-as (E r)) (sym same) ∙ is) kinds before;
     root-index = let index = complete .root-index in (index .0, ap (λ E. remains-as (E 1)) same ∙ index .1, index .2);
   }
 
@@ -53,8 +53,8 @@ keeps-torn : (blocks : List Block) (c : ℕ) (objects : ℕ → Option Object) �
 keeps-torn blocks c objects inside complete agree meaning = record {
   recoverable = Recoverable.one-lost c (record { whole = blocks; inside = inside; complete = complete; agree = agree; lost = refl });
   shows = λ r h.
-    let within : r < 32 * cylinders-of blocks = rw (← ap (λ n. n / 32) (length-set blocks (32 * c) Block.unreadable)) h in
-    torn-map-law blocks c inside (record { usable = complete .usable; single = complete .single; agree = agree }) r within ∙ meaning .shows r within;
+      let within : r < 32 * cylinders-of blocks = rw (← ap (λ n. n / 32) (length-set blocks (32 * c) Block.unreadable)) h in
+      torn-map-law blocks c inside (record { usable = complete .usable; single = complete .single; agree = agree }) r within ∙ meaning .shows r within;
 }
 
 keeps-root : (blocks : List Block) (a : ℕ) (x : Block) (objects : ℕ → Option Object) → root-place a ≡ true → Complete blocks → Meaning blocks objects → Meaning (set blocks a x) objects
@@ -63,10 +63,11 @@ keeps-root blocks a x objects place complete meaning =
     let low = leb-true 1 (sector-of a) (sides .0) in
     let high = leb-true (sector-of a) 4 (sides .1) in
     let uncounted : (r p : ℕ) → counted-at (entry-at blocks) (32 * cylinders-of blocks) r p ≡ Some a → ⊥ =
-        λ r p found. let place′ = claim-place blocks r p a (lowest-finds (claims (entry-at blocks) r p) (32 * cylinders-of blocks) a found .0) in omega arith in
+    λ r p found. let place′ = claim-place blocks r p a (lowest-finds (claims (entry-at blocks) r p) (32 * cylinders-of blocks) a found .0) in omega arith in
     record {
       recoverable = Recoverable.complete (still-complete blocks a x (omega arith) complete uncounted);
-      shows = λ r h. root-block-law blocks a x place (usable-none-lost blocks (complete .usable)) r ∙ meaning .shows r (rw (← ap (λ n. n / 32) (length-set blocks a x)) h) }
+      shows = λ r h. root-block-law blocks a x place (usable-none-lost blocks (complete .usable)) r ∙ meaning .shows r (rw (← ap (λ n. n / 32) (length-set blocks a x)) h);
+    }
 
 keeps-free : (blocks : List Block) (a : ℕ) (x : Block) (objects : ℕ → Option Object) → a < length blocks → 5 ≤ sector-of a → Complete blocks →
     ((r p : ℕ) → counted-at (restart-entries blocks) (32 * cylinders-of blocks) r p ≡ Some a → ⊥) → Meaning blocks objects → Meaning (set blocks a x) objects

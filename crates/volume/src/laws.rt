@@ -87,5 +87,4 @@ pub fn sound_volume_can_be_rebuilt()
 /// volume recoverable, with the same objects.
 pub fn stores_keep_a_volume_recoverable()
     ensures { λ _. ⌜ Kept-by-stores ⌝ }
-{
-}
+{}

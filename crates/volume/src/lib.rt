@@ -1,8 +1,11 @@
 // What a volume means: which blocks count, what objects it shows, and the laws that make a cut harmless.
+mod intend;
 mod laws;
 mod settle;
 mod worked;
 
+pub use intend::intend_to_allocate;
+pub use intend::intend_to_deallocate;
 pub use laws::clearing_keeps_what_counts;
 pub use laws::commit_changes_one_object;
 pub use laws::create_adds_one_object;
