@@ -1,5 +1,6 @@
 mod Claims
 mod Committing
+mod Fitting
 mod LostMap
 mod MapStores
 mod Meeting

@@ -30,52 +30,12 @@ use Rattle.volume.specs.Laws.{Same}
 use Rattle.volume.specs.Search.{lowest}
 use Rattle.volume.specs.Rebuilding.{RootBlocks, block-holds, holds, holder, held-entry, data-entry, shows, rebuilt-bit, root-entry, rebuilt-entry, rebuilt, Agree, Fit-volume, Single-claims, Lost-map-law}
 use Rattle.volume.proofs.Claims.{judged, own-claims, gone-claims}
+use Rattle.volume.proofs.Fitting.{Data-fits, data-fits, claim-for, address-at}
 use Rattle.volume.proofs.Sameness.{same-from-claims}
 use Rattle.volume.proofs.Searching.{lowest-below, lowest-none, lowest-finds, lowest-only, any-true, any-false}
 
--- where a data entry stands, and whom it names
-pub record Data-fits (cylinders a p : ℕ) (owner : Identifier) : Type 0 where
-  pub place : 5 ≤ sector-of a
-  pub few : p < 64
-  pub root : root-place (owner .root) ≡ true
-  pub within : owner .root < 32 * cylinders
-
-pub data-fits : (cylinders a p : ℕ) (state : DataState) (owner : Identifier) → fits-entry cylinders a (Data state p owner) ≡ true → Named (Data state p owner) → Data-fits cylinders a p owner
-data-fits cylinders a p state owner fits named =
-    let parts = and-parts (leb 5 (sector-of a) && ltb p 64) (ltb (cylinder-of (owner .root)) cylinders) fits in
-    let place = and-parts (leb 5 (sector-of a)) (ltb p 64) (parts .0) in
-    let names = and-parts (is-tag (owner .tag) && root-place (owner .root)) (ltb (cylinder-of (owner .root)) 64) named in
-    let inside = ltb-true (cylinder-of (owner .root)) cylinders (parts .1) in
-    record {
-      place = leb-true 5 (sector-of a) (place .0);
-      few = ltb-true p 64 (place .1);
-      root = and-parts (is-tag (owner .tag)) (root-place (owner .root)) (names .0) .1;
-      within = omega arith;
-    }
-
--- an entry that claims a position is a data entry for it
-pub claim-for : (E : Entries) (r p : ℕ) (e : Entry) → (for-position r p e && counts E e) ≡ true →
-    (state : DataState) × ((owner : Identifier) × (e ≡ Data state p owner) × (owner .root ≡ r) × (counts E e ≡ true))
-claim-for E r p Map h = absurd (true≢false (sym h))
-claim-for E r p Free h = absurd (true≢false (sym h))
-claim-for E r p (Root state kind commit tag) h = absurd (true≢false (sym h))
-claim-for E r p (Data state position owner) h =
-    let parts = and-parts (eqb (owner .root) r && eqb position p) (counts E (Data state position owner)) h in
-    let place = and-parts (eqb (owner .root) r) (eqb position p) (parts .0) in
-    (state, (owner, ap (λ q. Data state q owner) (eqb-true position p (place .1)), eqb-true (owner .root) r (place .0), parts .1))
-
-pub address-at : (E : Entries) (n r p : ℕ) → p < 64 → getD (counted-addresses E n r) p 0 ≡ address-or-0 (counted-at E n r p)
-unfolding counted-addresses
-address-at E n r p h = getD-map-counting (λ q. address-or-0 (counted-at E n r q)) 0 64 p p 0 h (omega arith)
-
 module _ (E : Entries) (R : RootBlocks) (cylinders c : ℕ) (inside : c < cylinders) (fit : Fit-volume E cylinders)
     (single : Single-claims E (32 * cylinders)) (agree : Agree E R (32 * cylinders)) where
-  size : ℕ
-  size = 32 * cylinders
-
-  E′ : Entries
-  E′ = rebuilt E R (32 * cylinders) c
-
   data-at : (a p : ℕ) (state : DataState) (owner : Identifier) → a < 32 * cylinders → E a ≡ Data state p owner → Data-fits cylinders a p owner
   data-at a p state owner h is =
       let f = fit a h in
@@ -164,12 +124,6 @@ module _ (E : Entries) (R : RootBlocks) (cylinders c : ℕ) (inside : c < cylind
 
   -- the bit of an object that remains, at a root place r
   module _ (r : ℕ) (rh : r < 32 * cylinders) (object : Held) (is : remains-as (E r) ≡ Some object) where
-    tag : ℕ
-    tag = object .tag
-
-    addresses : List ℕ
-    addresses = counted-addresses E (32 * cylinders) r
-
     -- for its own entries, the root block shows what the bit says
     own-address : (b p : ℕ) (state : DataState) (owner : Identifier) → b < 32 * cylinders → E b ≡ Data state p owner → (eqb (owner .root) r && eqb (object .tag) (owner .tag)) ≡ true →
         eqb (getD (counted-addresses E (32 * cylinders) r) p 0) b ≡ state-counts state (bit (E r))

@@ -54,9 +54,6 @@ module _ (E F : Entries) (R : RootBlocks) (n c : ℕ) (outside : (a : ℕ) → e
       by a false away = outside a away
 
 module _ (blocks : List Block) (c : ℕ) (x : Block) (inside : c < cylinders-of blocks) where
-  after : List Block
-  after = set blocks (32 * c) x
-
   same-cylinders : cylinders-of (set blocks (32 * c) x) ≡ cylinders-of blocks
   same-cylinders = ap (λ n. n / 32) (length-set blocks (32 * c) x)
 
@@ -81,9 +78,6 @@ map-store-law blocks c bytes entries inside is = fun-ext (λ a. by a (eqb (cylin
         ∙ ap₂ (λ n b. map-in n c b) (same-cylinders blocks c (Block.readable bytes) inside) (map-here blocks c (Block.readable bytes) inside) ∙ is)
 
 module _ (blocks : List Block) (c : ℕ) (inside : c < cylinders-of blocks) (sound : Sound blocks) where
-  torn : List Block
-  torn = set blocks (32 * c) Block.unreadable
-
   torn-lost : lost-map (set blocks (32 * c) Block.unreadable) ≡ Some c
   torn-lost =
       lowest-only (λ d. is-unreadable (block-at (set blocks (32 * c) Block.unreadable) (32 * d))) (cylinders-of (set blocks (32 * c) Block.unreadable)) c

@@ -29,7 +29,8 @@ use Rattle.volume.specs.Meeting.{Usable, Quiet, Rest, Held-once, Meeting-law}
 use Rattle.volume.specs.Rebuilding.{Agree, Fit-volume, Single-claims, block-holds}
 use Rattle.volume.specs.Search.{lowest}
 use Rattle.volume.specs.Volume.{cylinders-of, map-in, map-at, entry-in, entry-at, root-in, root-at, is-unreadable, lost-map, entries-with, restart-entries, content, object-of, counted, some-address, live-object, existing, shown}
-use Rattle.volume.proofs.LostMap.{address-at, data-fits, claim-for, holds-is}
+use Rattle.volume.proofs.Fitting.{address-at, data-fits, claim-for}
+use Rattle.volume.proofs.LostMap.{holds-is}
 use Rattle.volume.proofs.Reading.{usable-none-lost, usable-fits}
 use Rattle.volume.proofs.Searching.{lowest-finds}
 

@@ -21,7 +21,8 @@ use Rattle.volume.specs.Rebuilding.{RootBlocks, block-holds, rebuilt, rebuilt-
 use Rattle.volume.specs.Repeating.{Once, Acceptable, Lost-accepted}
 use Rattle.volume.specs.Settling.{settled, cleared}
 use Rattle.volume.specs.Volume.{cylinders-of, entry-at, root-in, root-at}
-use Rattle.volume.proofs.LostMap.{claim-for, holds-is}
+use Rattle.volume.proofs.Fitting.{claim-for}
+use Rattle.volume.proofs.LostMap.{holds-is}
 use Rattle.volume.proofs.MapStores.{same-rebuilt}
 use Rattle.volume.proofs.Reading.{usable-fits}
 

@@ -23,7 +23,7 @@ use Rattle.volume.specs.Rebuilding.{RootBlocks, rebuilt}
 use Rattle.volume.specs.Search.{lowest}
 use Rattle.volume.specs.Stores.{content-after, Data-block-law, Free-block-law, Root-block-law}
 use Rattle.volume.specs.Volume.{cylinders-of, map-in, map-at, entry-in, entry-at, root-in, root-at, is-unreadable, lost-map, entries-with, restart-entries, words-in, content, object-of, counted}
-use Rattle.volume.proofs.LostMap.{data-fits, claim-for}
+use Rattle.volume.proofs.Fitting.{data-fits, claim-for}
 use Rattle.volume.proofs.Reading.{entry-fits}
 use Rattle.volume.proofs.Searching.{lowest-below, lowest-finds}
 
