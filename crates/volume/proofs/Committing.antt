@@ -18,7 +18,7 @@ use Rattle.map.specs.declared.kind.Kind.{Kind}
 use Rattle.volume.specs.Committing.{state-for, Never-in, Becomes, marked, with-bit, Commit-law, Removal-law, with-object, Create-law}
 use Rattle.volume.specs.Counting.{Entries, remains-as, bit, has-tag, state-counts, counts, for-position, claims, counted-at, held}
 use Rattle.volume.proofs.OneRoot.{claims-judged, others-stay}
-use Rattle.volume.proofs.Claims.{judged, own-claims, gone-claims}
+use Rattle.volume.proofs.Claiming.{judged, own-claims, gone-claims}
 use Rattle.volume.proofs.Searching.{lowest-below, lowest-none, lowest-first}
 
 with-bit-at : (E : Entries) (r : ℕ) → with-bit r E r ≡ marked (E r)

@@ -1,4 +1,5 @@
-mod Claims
+mod ClaimTable
+mod Claiming
 mod Committing
 mod Fitting
 mod LostMap

@@ -29,7 +29,7 @@ use Rattle.volume.specs.Counting.{Entries, Held, remains-as, bit, has-tag, sta
 use Rattle.volume.specs.Laws.{Same}
 use Rattle.volume.specs.Search.{lowest}
 use Rattle.volume.specs.Rebuilding.{RootBlocks, block-holds, holds, holder, held-entry, data-entry, shows, rebuilt-bit, root-entry, rebuilt-entry, rebuilt, Agree, Fit-volume, Single-claims, Lost-map-law}
-use Rattle.volume.proofs.Claims.{judged, own-claims, gone-claims}
+use Rattle.volume.proofs.Claiming.{judged, own-claims, gone-claims}
 use Rattle.volume.proofs.Fitting.{Data-fits, data-fits, claim-for, address-at}
 use Rattle.volume.proofs.Sameness.{same-from-claims}
 use Rattle.volume.proofs.Searching.{lowest-below, lowest-none, lowest-finds, lowest-only, any-true, any-false}

@@ -1,9 +1,13 @@
 // What a volume means: which blocks count, what objects it shows, and the laws that make a cut harmless.
+mod claims;
 mod intend;
 mod laws;
 mod settle;
 mod worked;
 
+pub use claims::claim_entry;
+pub use claims::claim_map;
+pub use claims::claims_are_the_lowest;
 pub use intend::intend_to_allocate;
 pub use intend::intend_to_deallocate;
 pub use laws::clearing_keeps_what_counts;
