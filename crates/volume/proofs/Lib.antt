@@ -12,3 +12,4 @@ mod Repeating
 mod Sameness
 mod Searching
 mod Stores
+mod WorkedSave

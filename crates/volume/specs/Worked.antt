@@ -3,6 +3,7 @@
 --   saving          the entries once the intentions are marked, with the commit bit set or not
 --   roots-holding   root blocks in which position 0 of that file is this block
 --   Save-worked     what counts before and after the bit, settled, cleared, and with either map lost
+--   Premises-hold   the premises of the lost-map law, on this volume
 --   Shortcuts-fail  three shortcuts that would mix two saves
 use mathlib.Core.Bool.{Bool, true, false, cond}
 use mathlib.Core.List.{List, [], _∷_}
@@ -23,7 +24,7 @@ use Rattle.object.specs.declared.root.RootBlock.{RootBlock}
 use Rattle.object.specs.declared.root.RootBlock.the-variants.{Dead, Live}
 use Rattle.volume.specs.Committing.{with-bit}
 use Rattle.volume.specs.Counting.{Entries, claims, counted-at, due}
-use Rattle.volume.specs.Rebuilding.{RootBlocks, rebuilt}
+use Rattle.volume.specs.Rebuilding.{RootBlocks, rebuilt, Fit-volume, Single-claims, Agree}
 use Rattle.volume.specs.Settling.{settled, cleared}
 
 abbrev pub file : Identifier
@@ -76,3 +77,12 @@ pub record Shortcuts-fail : Type 0 where
   -- that already holds 37 makes the bit look set
   pub counted-before : counted-at (saving false) 64 2 0 ≡ Some 6
   pub too-early : rebuilt (saving false) (roots-holding 37) 64 0 2 ≡ Root root-state.Allocated kind.Special true 5
+
+-- the premises of the lost-map law hold of that save, before the bit and after it
+pub record Premises-hold : Type 0 where
+  pub fits-before : Fit-volume (saving false) 2
+  pub fits-after : Fit-volume (saving true) 2
+  pub single-before : Single-claims (saving false) 64
+  pub single-after : Single-claims (saving true) 64
+  pub agree-before : Agree (saving false) (roots-holding 6) 64
+  pub agree-after : Agree (saving true) (roots-holding 37) 64

@@ -1,6 +1,7 @@
 use mathlib.Core.Path.{refl}
 use Rattle.volume.specs.Counting.{counted-addresses}
 use Rattle.volume.specs.Search.{lowest, any}
+use Rattle.volume.proofs.WorkedSave.{premises-hold}
 use Rattle.volume.proofs.worked.worked_save_holds.Needs as need
 
 pub returns : need.returns
@@ -20,5 +21,6 @@ returns c = record {
     lost-0-entry = refl;
     lost-1-free = refl;
   };
+  premises = premises-hold;
   shortcuts = record { partnerless = refl; bit-forgotten = refl; counted-before = refl; too-early = refl };
 }
