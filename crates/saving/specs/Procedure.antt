@@ -2,7 +2,7 @@
 -- The job stands in blocks 0 to 7, the spare copy in 8 to 15, the marker in 16.
 --   copies         a job's parts, stored one after another; copies-marked: and then the marker
 --   save-plan      the new job to the spare blocks, the marker, the job over the old one, no marker
---   marker-at      whether the marker is there
+--   marker-of      whether a block says that the marker is there
 --   loaded         the parts that stand from an address on, if all can be read
 --   recovery-plan  if the marker is there, the spare copy over the job once more, and no marker
 --   Interrupted    a save, whole or cut, and then recoveries that were all cut
