@@ -57,10 +57,10 @@ module _ (blocks : List Block) (c : ℕ) (x : Block) (inside : c < cylinders-of 
   same-cylinders : cylinders-of (set blocks (32 * c) x) ≡ cylinders-of blocks
   same-cylinders = ap (λ n. n / 32) (length-set blocks (32 * c) x)
 
-  map-here : block-at (set blocks (32 * c) x) (32 * c) ≡ x
+  pub map-here : block-at (set blocks (32 * c) x) (32 * c) ≡ x
   map-here = getD-set-same blocks (32 * c) x Block.unreadable (omega arith)
 
-  map-there : (d : ℕ) → d ≢ c → block-at (set blocks (32 * c) x) (32 * d) ≡ block-at blocks (32 * d)
+  pub map-there : (d : ℕ) → d ≢ c → block-at (set blocks (32 * c) x) (32 * d) ≡ block-at blocks (32 * d)
   map-there d ne = getD-set-other blocks (32 * c) (32 * d) x Block.unreadable (λ e. ne (omega arith))
 
   entry-there : (a : ℕ) → eqb (cylinder-of a) c ≡ false → entry-at (set blocks (32 * c) x) a ≡ entry-at blocks a

@@ -34,6 +34,7 @@ same-from-claims n E E′ remains claim =
     record {
       remains = remains;
       counted = counted;
+      claim = claim;
       owed = λ r h. ap₂ (due-for r) (map-same (λ p. address-or-0 (counted-at E′ n r p)) (λ p. address-or-0 (counted-at E n r p)) (λ p. ap address-or-0 (counted r p)) (counting 0 64)) (remains r h);
     }
 

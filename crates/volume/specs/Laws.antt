@@ -20,6 +20,7 @@ pub record Same (n : ℕ) (E E′ : Entries) : Type 0 where
   pub remains : (r : ℕ) → r < n → remains-as (E′ r) ≡ remains-as (E r)
   pub counted : (r p : ℕ) → counted-at E′ n r p ≡ counted-at E n r p
   pub owed : (r : ℕ) → r < n → due E′ n r ≡ due E n r
+  pub claim : (r p a : ℕ) → a < n → claims E′ r p a ≡ claims E r p a
 
 abbrev pub changed : (ℕ → Bool) → (Entry → Entry) → Entries → Entries
 changed on f E a = cond (on a) (f (E a)) (E a)

@@ -4,8 +4,8 @@
 --   Recoverable  complete; or one map cannot be read, and with some map in its place the volume would be
 --                complete, with root blocks that agree
 --   Meaning      a recoverable volume together with the objects that a restart would show
---   Kept-by-stores   tearing a map, or any store at a root place or a free data block, keeps a volume recoverable
---                with the same meaning
+--   Kept-by-stores   tearing a map, any store at a root place or a free data block, and storing a map by which the
+--                entries count the same keep a volume recoverable, with the same meaning
 use mathlib.Core.Bool.{false, true}
 use mathlib.Core.List.{List}
 use mathlib.Core.Path.{_≡_}
@@ -15,9 +15,12 @@ use Rattle.std.specs.declared.option.Option.{Option}
 use Rattle.std.specs.declared.option.Option.the-variants.{Some, None}
 use Rattle.device.specs.Blocks.{Block, block-at}
 use Rattle.map.specs.Addresses.{sector-of, root-place}
+use Rattle.map.specs.Maps.{decoded-map}
+use Rattle.map.specs.declared.entry.Entry.{Entry}
 use Rattle.map.specs.declared.kind.Kind.the-variants as kind
 use Rattle.volume.specs.Counting.{Held, remains-as, counted-at}
-use Rattle.volume.specs.MapStores.{Sound}
+use Rattle.volume.specs.Laws.{Same}
+use Rattle.volume.specs.MapStores.{map-changed}
 use Rattle.volume.specs.Meeting.{Usable}
 use Rattle.volume.specs.Rebuilding.{Agree, Single-claims}
 use Rattle.volume.specs.Volume.{cylinders-of, entry-at, root-at, is-unreadable, restart-entries, Object, counted}
@@ -25,7 +28,7 @@ use Rattle.volume.specs.Volume.{cylinders-of, entry-at, root-at, is-unreadable
 pub record Complete (blocks : List Block) : Type 0 where
   pub usable : Usable blocks
   pub single : Single-claims (entry-at blocks) (32 * cylinders-of blocks)
-  pub indexes : (r p a : ℕ) (object : Held) → remains-as (entry-at blocks r) ≡ Some object → object .kind ≡ kind.Index →
+  pub indexes : (r p a : ℕ) (object : Held) → r < 32 * cylinders-of blocks → remains-as (entry-at blocks r) ≡ Some object → object .kind ≡ kind.Index →
       counted-at (entry-at blocks) (32 * cylinders-of blocks) r p ≡ Some a → is-unreadable (block-at blocks a) ≡ false
   pub root-index : (object : Held) × (remains-as (entry-at blocks 1) ≡ Some object) × (object .kind ≡ kind.Index)
 
@@ -56,3 +59,8 @@ pub record Kept-by-stores : Type 0 where
   -- any store at a data block of a complete volume that counts for no position
   pub free-block : (blocks : List Block) (a : ℕ) (x : Block) (objects : ℕ → Option Object) → a < length blocks → 5 ≤ sector-of a → Complete blocks →
       ((r p : ℕ) → counted-at (restart-entries blocks) (32 * cylinders-of blocks) r p ≡ Some a → ⊥) → Meaning blocks objects → Meaning (set blocks a x) objects
+  -- a whole store at a map of a complete volume, by which the entries count the same: intentions, settling, clearing
+  pub whole-map : (blocks : List Block) (c : ℕ) (bytes : List ℕ) (entries : List Entry) (objects : ℕ → Option Object) → c < cylinders-of blocks →
+      decoded-map (cylinders-of blocks) c bytes ≡ Some entries → Complete blocks →
+      Same (32 * cylinders-of blocks) (entry-at blocks) (map-changed c entries (entry-at blocks)) →
+      Meaning blocks objects → Meaning (set blocks (32 * c) (Block.readable bytes)) objects

@@ -83,8 +83,8 @@ pub fn sound_volume_can_be_rebuilt()
     ensures { λ _. ⌜ Lost-accepted ⌝ }
 {}
 
-/// Tearing a map, or any store at a root place or at a data block that counts for nothing, keeps a
-/// volume recoverable, with the same objects.
+/// Tearing a map, any store at a root place or at a data block that counts for nothing, and storing
+/// a map by which the entries count the same keep a volume recoverable, with the same objects.
 pub fn stores_keep_a_volume_recoverable()
     ensures { λ _. ⌜ Kept-by-stores ⌝ }
 {}
