@@ -1,8 +1,7 @@
 -- Why the store that is cut is the one that bears the armed cut's number.
-use Rattle.std.proofs.Common.{◌≡◌, ℕ, ◌+◌, ◌<◌, ◌≤◌, Bool, true, false, cond, eqb, ltb, List, length, get_or, sym, refl, ap, ◌∙◌, ap₂, ⊎_elim, arith}
+use Rattle.std.proofs.Common.{◌≡◌, ℕ, ◌+◌, ◌<◌, ◌≤◌, true, false, cond, eqb, ltb, List, length, get_or, sym, refl, ap, ◌∙◌, ap₂, ⊎_elim, arith}
 use Rattle.std.proofs.lemmas.Bool.{cases_Bool, cases_lt, eqb-false, lt-ltb, ne_eqb}
-use Rattle.device.specs.Trials.{trial_blocks, never, armed_cut, hit, count_on, Others, TrialStores, DoneInARow, NumberedStoreIsCut}
-use Rattle.device.specs.declared.answers.Storing.{Storing}
+use Rattle.device.specs.Trials.{trial_blocks, never, armed_cut, hit, TrialStores, DoneInARow, NumberedStoreIsCut}
 use Rattle.device.specs.declared.answers.Storing.TheVariants as storing
 use Rattle.device.specs.declared.cut.Cut.{Cut}
 use Rattle.device.specs.declared.trial.Trial.{Trial}

@@ -1,5 +1,5 @@
 -- What a change of one block or one mark does to the blocks seen through the marks.
-use Rattle.std.proofs.Common.{◌≡◌, ℕ, zero, suc, ◌<◌, min, Bool, true, cond, eqb, List, [], ◌∷◌, length, get_or, set, vec_items, vec_len, sym, refl, ap, ◌∙◌, arith}
+use Rattle.std.proofs.Common.{◌≡◌, ℕ, zero, suc, ◌<◌, Bool, true, cond, eqb, List, [], ◌∷◌, length, get_or, set, vec_items, vec_len, refl, ap, ◌∙◌, arith}
 use Rattle.std.proofs.lemmas.Bool.{true≢false, ne_eqb, eq-eqb}
 use Rattle.device.specs.Blocks.{Block, block_at, Reads, Stores}
 use Rattle.device.specs.ImageLaws.{image_size}

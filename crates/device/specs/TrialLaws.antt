@@ -1,6 +1,6 @@
 -- A trial drive's readable blocks have 512 bytes, and what follows from the definition at once.
-use Rattle.std.specs.Prelude.{◌≡◌, ℕ, zero, suc, ◌<◌, ◌≤◌, min, Bool, true, false, cond, List, [], ◌∷◌, length, ◌==◌, ◌≢◌, slice_index, refl}
-use Rattle.std.proofs.Common.{sym, ap, ◌∙◌, ⊎_elim, arith}
+use Rattle.std.specs.Prelude.{◌≡◌, ℕ, zero, suc, ◌<◌, min, Bool, true, false, cond, List, [], ◌∷◌, length, ◌==◌, ◌≢◌, slice_index, refl}
+use Rattle.std.proofs.Common.{arith}
 use Rattle.device.specs.Blocks.{Block, Whole, block_at}
 use Rattle.device.specs.Trials.{masked}
 

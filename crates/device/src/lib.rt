@@ -1,4 +1,6 @@
 // One interface for every drive: the trait `Device`, with its meaning, and the drives behind it.
+#![tactic(auto)]
+
 mod answers;
 mod cut;
 mod device;

@@ -1,4 +1,5 @@
 // Tests of the drives, run through the interface that they share.
+#![tactic(auto)]
 
 #[cfg(test)]
 mod tests {

@@ -1,4 +1,5 @@
 // Formatting: the stores by which a device becomes an empty volume.
+#![tactic(auto)]
 mod contents;
 mod laws;
 mod stores;

@@ -1,4 +1,5 @@
 // Finding objects, reading what they hold, and the blocks that a staged write makes.
+#![tactic(auto)]
 mod finding;
 mod objects;
 mod stage;

@@ -1,5 +1,6 @@
 // Tests of addresses, identifiers and cylinder maps, on bytes written out. A volume here has two
 // cylinders unless a test says otherwise.
+#![tactic(auto)]
 
 #[cfg(test)]
 mod tests {

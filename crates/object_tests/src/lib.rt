@@ -1,4 +1,5 @@
 // Tests of root blocks, words and index entries, against bytes that are written out here.
+#![tactic(auto)]
 
 #[cfg(test)]
 mod tests {

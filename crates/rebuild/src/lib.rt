@@ -1,4 +1,5 @@
 // The lost map of one cylinder, rebuilt from root blocks and the other maps.
+#![tactic(auto)]
 mod laws;
 mod note;
 mod take;

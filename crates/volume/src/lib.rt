@@ -1,4 +1,5 @@
 // What a volume means: which blocks count, what objects it shows, and the laws that make a cut harmless.
+#![tactic(auto)]
 mod choose;
 mod claims;
 mod intend;

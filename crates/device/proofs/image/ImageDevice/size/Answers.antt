@@ -1,4 +1,4 @@
-use Rattle.std.proofs.Common.{◌/◌, vec_items, sym, ap, ◌∙◌, rules}
+use Rattle.std.proofs.Common.{◌/◌, vec_items, sym, ap, ◌∙◌}
 use Rattle.device.specs.ImageLaws.{image_size}
 use Rattle.device.proofs.image.ImageDevice.size.Goals as goal
 

@@ -1,5 +1,4 @@
 use Rattle.std.proofs.Common.{◌*◌, ◌/◌, ◌<◌, length, arith}
-use Rattle.device.specs.Blocks.{Reads}
 use Rattle.device.specs.SkewLaws.{skewed_size}
 use Rattle.device.proofs.Skews.{read_skewed}
 use Rattle.device.proofs.skew.SkewDevice.read.Goals as goal

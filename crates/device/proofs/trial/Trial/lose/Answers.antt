@@ -3,8 +3,8 @@ use Rattle.device.specs.Images.{image_blocks}
 use Rattle.device.proofs.Trials.{masked_lost, has_mark}
 use Rattle.device.proofs.trial.Trial.lose.Goals as goal
 
-pub index-mut-requires : goal.index-mut-requires
-index-mut-requires c = has_mark c.args.self.now c.args.b c.requires
+pub index_mut-requires : goal.index_mut-requires
+index_mut-requires c = has_mark c.args.self.now c.args.b c.requires
 
 pub returns : goal.returns
 returns c =

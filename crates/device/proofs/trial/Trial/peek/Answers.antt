@@ -1,4 +1,4 @@
-use Rattle.std.proofs.Common.{◌≡◌, ◌<◌, true, length, get_or, vec_items, sym, refl, ◌∙◌, arith}
+use Rattle.std.proofs.Common.{◌<◌, true, length, vec_items, sym, refl, ◌∙◌, arith}
 use Rattle.std.proofs.lemmas.List.{get_or_read_under}
 use Rattle.device.specs.Images.{image_blocks}
 use Rattle.device.specs.Trials.{trial_blocks}

@@ -1,4 +1,4 @@
-use Rattle.std.proofs.Common.{◌≡◌, min, vec_items, sym, ◌∙◌, ap₂}
+use Rattle.std.proofs.Common.{min, vec_items, sym, ◌∙◌, ap₂}
 use Rattle.device.specs.Images.{image_blocks}
 use Rattle.device.specs.TrialLaws.{masked_size}
 use Rattle.device.proofs.trial.TrialDevice.size.Goals as goal
