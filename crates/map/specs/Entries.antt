@@ -3,7 +3,7 @@
 --   fits_entry     an entry that the address may have, in a volume of so many cylinders
 --   read_entry     the entry that the bytes name, if they name one
 --   decoded_entry  that entry, if it fits and its bytes are exactly these
-use Rattle.std.specs.Prelude.{◌≡◌, ℕ, ◌+◌, ◌*◌, Bool, true, false, cond, ◌&&◌, List, [], ◌∷◌, ◌++◌, replicate, Some, None, Option, ◌==◌, nat_lt, slice_index}
+use Rattle.std.specs.Prelude.{◌≡◌, ℕ, Bool, true, cond, ◌&&◌, List, ◌∷◌, ◌++◌, Some, None, Option, ◌==◌, nat_lt, slice_index}
 use Rattle.map.specs.Addresses.{cylinder_of, sector_of, root_place, data_block}
 use Rattle.map.specs.Bytes.{le4, number4}
 use Rattle.map.specs.Checked.{checked}

@@ -1,20 +1,19 @@
 -- Both round trips of one entry.
-use Rattle.std.specs.Prelude.{◌≡◌, ℕ, ◌+◌, ◌*◌, ◌/◌, ◌%◌, ◌^◌, ◌<◌, ◌≤◌, Bool, true, false, cond, ◌&&◌, ltb, List, length, Some, None, Option, ◌==◌, nat_eq, nat_le, nat_lt, slice_index, refl}
-use Rattle.std.proofs.Common.{sym, ap, ap₂, subst, ◌∙◌, arith}
-use Rattle.std.proofs.lemmas.Bool.{and_parts, ltb-true, leb-true, eqb-true, ne_eqb, eq-eqb, lt-ltb, le-ltb}
-use Rattle.map.specs.Addresses.{cylinder_of, sector_of, root_place}
+use Rattle.std.specs.Prelude.{◌≡◌, ℕ, ◌^◌, Bool, true, false, cond, ◌&&◌, ltb, List, length, Some, None, Option, ◌==◌, nat_eq, nat_le, nat_lt, slice_index, refl}
+use Rattle.std.proofs.Common.{subst, arith}
+use Rattle.std.proofs.lemmas.Bool.{and_parts, ltb-true, leb-true, ne_eqb, lt-ltb, le-ltb}
+use Rattle.map.specs.Addresses.{cylinder_of, sector_of}
 use Rattle.map.specs.ByteLaws.{number_of_le4, identified_again}
 use Rattle.map.specs.Bytes.{number4}
 use Rattle.map.specs.Checked.{checked_named, checked_bytes, checked_back}
 use Rattle.map.specs.Entries.{encoded_entry, fits_entry, read_entry, read_root, read_data, decoded_entry, kind_number, kind_of, root_state_number, root_state_of, data_state_number, data_state_of, Named}
-use Rattle.map.specs.Identifiers.{is_tag, is_identifier, identified}
+use Rattle.map.specs.Identifiers.{is_identifier}
 use Rattle.map.specs.declared.entry.DataState.{DataState}
 use Rattle.map.specs.declared.entry.DataState.TheVariants as data_state
 use Rattle.map.specs.declared.entry.Entry.{Entry}
 use Rattle.map.specs.declared.entry.Entry.TheVariants.{Map, Free, Root, Data}
 use Rattle.map.specs.declared.entry.RootState.{RootState}
 use Rattle.map.specs.declared.entry.RootState.TheVariants as root_state
-use Rattle.map.specs.declared.identifier.Identifier.{Identifier}
 use Rattle.map.specs.declared.kind.Kind.{Kind}
 use Rattle.map.specs.declared.kind.Kind.TheVariants as kind
 

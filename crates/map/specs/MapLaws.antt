@@ -1,12 +1,12 @@
 -- Both round trips of a whole map, and the steps of the loops that read and write one.
-use Rattle.std.specs.Prelude.{◌≡◌, ℕ, zero, suc, ◌+◌, ◌-◌, ◌*◌, ◌<◌, ◌≤◌, true, List, [], ◌∷◌, ◌++◌, length, take, drop, Some, None, Option, slice_index_or, refl}
+use Rattle.std.specs.Prelude.{◌≡◌, ℕ, zero, suc, ◌+◌, ◌*◌, ◌<◌, ◌≤◌, List, [], ◌∷◌, ◌++◌, length, take, drop, Some, slice_index_or, refl}
 use Rattle.std.proofs.Common.{sym, ap, ap₂, ◌∙◌, arith, take-add}
 use borrow.Rule.Slice.PartMut.{put_mid}
 use Rattle.std.proofs.lemmas.Slice.{take-put_mid}
-use Rattle.std.proofs.lemmas.List.{append-nil, append_assoc, take_more, length-take, length-append, length-take-le, length-drop, take_at, drop_at, take_all, drop-drop, take-append-drop}
+use Rattle.std.proofs.lemmas.List.{append-nil, append_assoc, take_more, length-take, length-append, length-take-le, length-drop, take_at, drop_at, take_all, drop-drop}
 use Rattle.device.specs.Gathers.{gathered, gathered_all, gathered_each}
-use Rattle.map.specs.Entries.{encoded_entry, decoded_entry, fits_entry, Named}
-use Rattle.map.specs.Maps.{entry_part, decoded_sector, decoded_map, encoded_from, encoded_map, Fitting, MapBytesReturn, MapEntriesReturn}
+use Rattle.map.specs.Entries.{encoded_entry, decoded_entry}
+use Rattle.map.specs.Maps.{entry_part, decoded_sector, encoded_from, encoded_map, MapBytesReturn, MapEntriesReturn}
 use Rattle.map.specs.declared.entry.Entry.{Entry}
 use Rattle.map.specs.declared.entry.Entry.TheVariants.{Map}
 use Rattle.map.specs.EntryLaws.{encoded_length, entry_bytes, entry_back, entry_named}

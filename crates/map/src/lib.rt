@@ -1,5 +1,6 @@
 // Addresses, identifiers and cylinder maps: what the bytes of a map say, and back.
 #![tactic(auto)]
+
 mod address;
 mod codec;
 mod cylinder;

@@ -17,10 +17,10 @@ loop-s-preserved c =
     let a = 32 * c.args.cylinder in
     let s = c.loop-s.s in
     let k = 16 * s + 16 - 16 * s in
-    let bytes = c.copy-from-slice.new.self in
+    let bytes = c.copy_from_slice.new.self in
     let within : s < length entries = omega (arith, c.told-entries) in
     let bytes_are : bytes ≡ encoded_entry (a + s) (get_or entries s Map) =
-    c.copy-from-slice.ensures.after ∙ c.encode-bytes.ensures ∙ ap (λ b. encoded_entry b (get_or entries s Map)) c.address.ensures in (
+    c.copy_from_slice.ensures.after ∙ c.encode-bytes.ensures ∙ ap (λ b. encoded_entry b (get_or entries s Map)) c.address.ensures in (
       written_length block bytes entries a s k c.loop-s.invariant.0 (omega arith) within (omega arith) bytes_are,
       written_more block bytes entries a s k c.loop-s.invariant.0 (omega arith) within (omega arith) bytes_are c.loop-s.invariant.1,
     )
