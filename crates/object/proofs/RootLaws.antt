@@ -1,5 +1,5 @@
 -- Both round trips of a root block.
-use Rattle.std.proofs.Common.{◌≡◌, ℕ, ◌+◌, ◌*◌, ◌/◌, ◌%◌, ◌^◌, ◌<◌, ◌≤◌, Bool, true, false, cond, ◌&&◌, eqb, ltb, List, [], ◌∷◌, length, get_or, replicate, Some, None, Option, sym, refl, ap, ◌∙◌, ap₂, arith}
+use Rattle.std.proofs.Common.{◌≡◌, ℕ, ◌+◌, ◌*◌, ◌/◌, ◌%◌, ◌^◌, ◌<◌, ◌≤◌, true, false, cond, ◌&&◌, eqb, ltb, List, [], ◌∷◌, length, get_or, Some, sym, refl, ap, ◌∙◌, ap₂, arith}
 use Rattle.std.proofs.lemmas.List.FromFn.{fill_by_all}
 use Rattle.std.proofs.lemmas.Bool.{and_parts, ltb-true, ne_eqb}
 use Rattle.map.specs.Addresses.{cylinder_of, root_place}
@@ -11,11 +11,11 @@ use Rattle.map.specs.Identifiers.{is_tag, is_identifier, identified}
 use Rattle.map.specs.declared.kind.Kind.{Kind}
 use Rattle.map.specs.declared.kind.Kind.TheVariants as kind
 use Rattle.object.specs.Roots.{zeros, encoded_root, fits_root, addresses_in, read_live, read_root_block, decoded_root, Formed, RootsReturn}
-use Rattle.object.specs.Words.{le2, word_at, bytes_of}
+use Rattle.object.specs.Words.{word_at, bytes_of}
 use Rattle.object.specs.declared.root.Root.{Root}
 use Rattle.object.specs.declared.root.RootBlock.{RootBlock}
 use Rattle.object.specs.declared.root.RootBlock.TheVariants.{Dead, Live}
-use Rattle.object.proofs.Placing.{placed_length, placed_below, placed_inside, placed_above, number_inside, number_below, number_above}
+use Rattle.object.proofs.Placing.{placed_length, placed_below, placed_inside, number_inside, number_below}
 use Rattle.object.proofs.WordLaws.{bytes_long, low_byte, high_byte, word_of_le2}
 
 zeros_long : length zeros ≡ 512

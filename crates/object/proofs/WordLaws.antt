@@ -1,11 +1,11 @@
 -- Words of a block: one word put, and the round trips.
 use Rattle.std.proofs.Common.{◌≡◌, ℕ, zero, suc, ◌+◌, ◌*◌, ◌/◌, ◌%◌, ◌^◌, ◌<◌, ◌≤◌, ◌≢◌, List, [], ◌∷◌, ◌++◌, length, get_or, take, set, sym, refl, ap, ◌∙◌, ap₂, ⊎_elim, arith}
 use Rattle.std.proofs.lemmas.List.FromFn.{length-map-range_with_len, get_or-map-range_with_len}
-use Rattle.std.proofs.lemmas.List.{length-set, length-append, length-take-le, get_or-set_same, get_or-set_other, ext_get_or, take_more, append_assoc}
+use Rattle.std.proofs.lemmas.List.{length-set, length-take-le, get_or-set_same, get_or-set_other, ext_get_or, take_more}
 use Rattle.std.proofs.lemmas.Bool.{cases_eq, cases_order}
 use Rattle.map.specs.Bytes.{placed}
 use Rattle.object.specs.Words.{le2, word_at, words_of, bytes_of, WordsReturn}
-use Rattle.object.proofs.Placing.{placed_length, placed_below, placed_inside, placed_above, placed_on, take_placed}
+use Rattle.object.proofs.Placing.{placed_below, placed_inside, placed_above, placed_on, take_placed}
 
 pub words_long : (block : List ℕ) → length (words_of block) ≡ 256
 unfolding words_of

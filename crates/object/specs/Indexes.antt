@@ -3,7 +3,7 @@
 --   entry_of   the identifier that stands there; anything else reads as none
 --   entered    the block with entry e set, or emptied; its other bytes stay
 --   EntriesReturn  an entry that is written is read again, and the others stay
-use Rattle.std.specs.Prelude.{◌≡◌, ℕ, ◌+◌, ◌*◌, ◌/◌, ◌%◌, true, List, [], ◌∷◌, ◌++◌, length, Some, None, Option, ◌≢◌}
+use Rattle.std.specs.Prelude.{◌≡◌, ℕ, ◌+◌, ◌*◌, ◌/◌, ◌%◌, true, List, ◌++◌, length, Some, None, Option, ◌≢◌}
 use Rattle.map.specs.Bytes.{le4, number4, placed}
 use Rattle.map.specs.Identifiers.{is_identifier, identified}
 use Rattle.map.specs.declared.identifier.Identifier.{Identifier}

@@ -3,7 +3,7 @@
 --   fits_root      a root block that may stand at an address, in a volume of so many cylinders
 --   decoded_root   the root block whose bytes are exactly these, if it fits
 --   RootsReturn   the two round trips
-use Rattle.std.specs.Prelude.{◌≡◌, ℕ, ◌+◌, ◌^◌, ◌<◌, Bool, true, false, cond, ◌&&◌, ◌||◌, List, [], ◌∷◌, map, length, replicate, Some, None, Option, ◌==◌, nat_lt, slice_index}
+use Rattle.std.specs.Prelude.{◌≡◌, ℕ, ◌+◌, ◌^◌, ◌<◌, Bool, true, cond, ◌&&◌, ◌||◌, List, [], ◌∷◌, map, length, replicate, Some, None, Option, ◌==◌, nat_lt, slice_index}
 use Rattle.std.specs.List.{range_with_len}
 use Rattle.map.specs.Addresses.{cylinder_of, data_block}
 use Rattle.map.specs.Bytes.{le4, number4, placed}
@@ -13,7 +13,6 @@ use Rattle.map.specs.Identifiers.{is_identifier, identified}
 use Rattle.map.specs.declared.identifier.Identifier.{Identifier}
 use Rattle.map.specs.declared.kind.Kind.{Kind}
 use Rattle.object.specs.Words.{word_at, bytes_of}
-use Rattle.object.specs.declared.root.Root.{Root}
 use Rattle.object.specs.declared.root.RootBlock.{RootBlock}
 use Rattle.object.specs.declared.root.RootBlock.TheVariants.{Dead, Live}
 

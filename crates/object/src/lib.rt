@@ -1,5 +1,6 @@
 // Root blocks, words and index entries: what the bytes of an object's blocks say, and back.
 #![tactic(auto)]
+
 mod bytes;
 mod codec;
 mod index;

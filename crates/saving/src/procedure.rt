@@ -32,8 +32,8 @@ enum Marker {
 struct PowerCut;
 
 fn put<D: Device>(device: &mut D, b: usize, bytes: &[u8; 512]) -> Result<(), PowerCut>
-    requires { b < length (blocks device.old) }
-    ensures { Runs (blocks device.old) (lit device.old) (write b bytes.now ∷ []) result (blocks device.new) (lit device.new) }
+    requires { b < length (D.blocks device.old) }
+    ensures { Runs (D.blocks device.old) (D.lit device.old) (write b bytes.now ∷ []) result (D.blocks device.new) (D.lit device.new) }
 {
     match device.store(b, bytes) {
         Storing::Done => Ok(()),
@@ -44,8 +44,8 @@ fn put<D: Device>(device: &mut D, b: usize, bytes: &[u8; 512]) -> Result<(), Pow
 
 // The job's parts, block after block.
 fn copy<D: Device>(device: &mut D, job: &Job, from: usize) -> Result<(), PowerCut>
-    requires { (from + 8 ≤ length (blocks device.old)) × (from ≤ 8) }
-    ensures { Runs (blocks device.old) (lit device.old) (copies job.now.parts from) result (blocks device.new) (lit device.new) }
+    requires { (from + 8 ≤ length (D.blocks device.old)) × (from ≤ 8) }
+    ensures { Runs (D.blocks device.old) (D.lit device.old) (copies job.now.parts from) result (D.blocks device.new) (D.lit device.new) }
 {
     for (i, part) in job.parts.iter().enumerate() {
         put(device, from + i, part)?;
@@ -69,8 +69,8 @@ fn copy_and_mark<D: Device>(
     from: usize,
     mark: u8,
 ) -> Result<(), PowerCut>
-    requires { (17 ≤ length (blocks device.old)) × (from ≤ 8) }
-    ensures { Runs (blocks device.old) (lit device.old) (copies_marked job.now.parts from mark) result (blocks device.new) (lit device.new) }
+    requires { (17 ≤ length (D.blocks device.old)) × (from ≤ 8) }
+    ensures { Runs (D.blocks device.old) (D.lit device.old) (copies_marked job.now.parts from mark) result (D.blocks device.new) (D.lit device.new) }
 {
     copy(device, job, from)?;
     put(device, MARKER, &marker_block(mark))
@@ -78,8 +78,8 @@ fn copy_and_mark<D: Device>(
 
 // The new job to the spare blocks, the marker, the job over the old one, and no marker.
 fn save<D: Device>(device: &mut D, job: &Job) -> Result<(), PowerCut>
-    requires { 17 ≤ length (blocks device.old) }
-    ensures { Runs (blocks device.old) (lit device.old) (save_plan job.now.parts) result (blocks device.new) (lit device.new) }
+    requires { 17 ≤ length (D.blocks device.old) }
+    ensures { Runs (D.blocks device.old) (D.lit device.old) (save_plan job.now.parts) result (D.blocks device.new) (D.lit device.new) }
 {
     copy_and_mark(device, job, SPARE, SET)?;
     copy_and_mark(device, job, 0, CLEAR)
@@ -87,8 +87,8 @@ fn save<D: Device>(device: &mut D, job: &Job) -> Result<(), PowerCut>
 
 // Whether a save was under way.
 fn look<D: Device>(device: &D) -> Marker
-    requires { (17 ≤ length (blocks device.now)) × (lit device.now ≡ true) }
-    ensures { result ≡ marker_of (block_at (blocks device.now) 16) }
+    requires { (17 ≤ length (D.blocks device.now)) × (D.lit device.now ≡ true) }
+    ensures { result ≡ marker_of (block_at (D.blocks device.now) 16) }
 {
     let mut bytes = [0; 512];
     match device.read(MARKER, &mut bytes) {
@@ -100,8 +100,8 @@ fn look<D: Device>(device: &D) -> Marker
 
 // The parts that stand from `from` on, if all can be read.
 fn load<D: Device>(device: &D, from: usize) -> Option<Job>
-    requires { (from + 8 ≤ length (blocks device.now)) × ((from ≤ 8) × (lit device.now ≡ true)) }
-    ensures { option_map (λ job. job.parts) result ≡ loaded (blocks device.now) from 8 }
+    requires { (from + 8 ≤ length (D.blocks device.now)) × ((from ≤ 8) × (D.lit device.now ≡ true)) }
+    ensures { option_map (λ job. job.parts) result ≡ loaded (D.blocks device.now) from 8 }
 {
     let mut parts = [[0; 512]; 8];
     for i in 0..8 {
@@ -116,8 +116,8 @@ fn load<D: Device>(device: &D, from: usize) -> Option<Job>
 
 // After a cut: if the marker is there, the spare copy over the job once more, and no marker.
 fn recover<D: Device>(device: &mut D) -> Result<(), PowerCut>
-    requires { (17 ≤ length (blocks device.old)) × (lit device.old ≡ true) }
-    ensures { Runs (blocks device.old) true (recovery_plan (blocks device.old)) result (blocks device.new) (lit device.new) }
+    requires { (17 ≤ length (D.blocks device.old)) × (D.lit device.old ≡ true) }
+    ensures { Runs (D.blocks device.old) true (recovery_plan (D.blocks device.old)) result (D.blocks device.new) (D.lit device.new) }
 {
     let Marker::There = look(device) else {
         return Ok(());
@@ -130,8 +130,8 @@ fn recover<D: Device>(device: &mut D) -> Result<(), PowerCut>
 
 // What stands in the job's place.
 fn judge<D: Device>(device: &D, old: &Job, new: &Job) -> Outcome
-    requires { (17 ≤ length (blocks device.now)) × (lit device.now ≡ true) }
-    ensures { Judged old.now.parts new.now.parts (blocks device.now) result }
+    requires { (17 ≤ length (D.blocks device.now)) × (D.lit device.now ≡ true) }
+    ensures { Judged old.now.parts new.now.parts (D.blocks device.now) result }
 {
     if let Marker::Unreadable = look(device) {
         return Outcome::MarkerUnreadable;
@@ -151,7 +151,7 @@ fn judge<D: Device>(device: &D, old: &Job, new: &Job) -> Outcome
 /// Saves the new job on a drive that holds the old one, and recovers after each cut, at most nine
 /// times, until a recovery is whole. Then it says what stands in the job's place.
 pub fn replay<D: Device>(device: &mut D, old: &Job, new: &Job) -> Report
-    ensures { Replays (blocks device.old) old.now.parts new.now.parts result (blocks device.new) }
+    ensures { Replays (D.blocks device.old) old.now.parts new.now.parts result (D.blocks device.new) }
 {
     if device.size() < 17 {
         return Report {

@@ -1,4 +1,4 @@
-use Rattle.std.proofs.Common.{◌≡◌, ℕ, ◌+◌, ◌<◌, length, ◌∙◌, arith}
+use Rattle.std.proofs.Common.{ℕ, ◌+◌, ◌<◌, length, ◌∙◌, arith}
 use Rattle.std.proofs.lemmas.List.FromFn.{fill_by_all}
 use Rattle.std.proofs.lemmas.List.Edits.{fill_by_more}
 use Rattle.std.proofs.lemmas.List.{length-set}
@@ -11,8 +11,8 @@ loop-i-preserved c =
     let blocks = c.loop-i.blocks in
     let i = c.loop-i.i in
     let within : i < length blocks = omega (arith, c.loop-i.invariant.0) in (
-      length-set blocks i c.from-le-bytes.result ∙ c.loop-i.invariant.0,
-      rw c.from-le-bytes.ensures (fill_by_more (λ (k : ℕ). word_at c.args.block.now (8 + k)) blocks i 0 within c.loop-i.invariant.1),
+      length-set blocks i c.from_le_bytes.result ∙ c.loop-i.invariant.0,
+      rw c.from_le_bytes.ensures (fill_by_more (λ (k : ℕ). word_at c.args.block.now (8 + k)) blocks i 0 within c.loop-i.invariant.1),
     )
 
 pub returns : goal.returns

@@ -1,6 +1,6 @@
-use Rattle.std.proofs.Common.{◌≡◌, ◌+◌, ◌<◌, Bool, ◌&&◌, length, get_or, drop, sym, ap, ◌∙◌, arith}
+use Rattle.std.proofs.Common.{◌+◌, Bool, ◌&&◌, drop, sym, ap, ◌∙◌, arith}
 use Rattle.std.proofs.lemmas.List.{at_drop_more, at_drop_all}
-use Rattle.object.specs.Roots.{fits_address, all_fit}
+use Rattle.object.specs.Roots.{all_fit}
 use Rattle.object.proofs.codec.all_fit.Goals as goal
 
 pub returns-then-not-fits : goal.returns-then-not-fits

@@ -1,4 +1,4 @@
-use Rattle.std.proofs.Common.{◌≡◌, ℕ, ◌+◌, ◌*◌, length, sym, ap, ◌∙◌, ap₂, arith}
+use Rattle.std.proofs.Common.{◌+◌, ◌*◌, sym, ap, ◌∙◌, ap₂, arith}
 use Rattle.std.proofs.lemmas.List.{take_all}
 use Rattle.map.specs.Bytes.{placed}
 use Rattle.object.specs.Words.{bytes_of}
@@ -12,7 +12,7 @@ loop-i-init c = sym (placed_nothing 16 c.args.block.now)
 pub loop-i-preserved : goal.loop-i-preserved
 loop-i-preserved c =
     let i = c.loop-i.i in
-    c.put-bytes.ensures ∙ ap₂ (placed (16 + 2 * i)) c.to-le-bytes.ensures c.loop-i.invariant
+    c.put_bytes.ensures ∙ ap₂ (placed (16 + 2 * i)) c.to_le_bytes.ensures c.loop-i.invariant
     ∙ addresses_more c.args.blocks.now c.args.block.now 16 i (omega (arith, c.told-blocks)) (omega (arith, c.told-block))
 
 pub returns : goal.returns

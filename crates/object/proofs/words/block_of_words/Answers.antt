@@ -13,8 +13,8 @@ loop-i-preserved c =
     let i = c.loop-i.i in
     let room : 2 * i + 2 ≤ length block = omega (arith, c.loop-i.invariant.0) in
     let within : i < length words = omega (arith, c.told-words) in
-    let put : c.put-bytes.new.block ≡ placed (2 * i) (le2 (get_or words i 0)) block =
-    c.put-bytes.ensures ∙ ap (λ xs. placed (2 * i) xs block) c.to-le-bytes.ensures in (
+    let put : c.put_bytes.new.block ≡ placed (2 * i) (le2 (get_or words i 0)) block =
+    c.put_bytes.ensures ∙ ap (λ xs. placed (2 * i) xs block) c.to_le_bytes.ensures in (
       ap length put ∙ placed_length (2 * i) (le2 (get_or words i 0)) block (omega arith) ∙ c.loop-i.invariant.0,
       ap (take (2 * (i + 1))) put ∙ bytes_more words block i within room c.loop-i.invariant.1,
     )

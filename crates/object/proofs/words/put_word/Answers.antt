@@ -7,5 +7,5 @@ use Rattle.object.proofs.words.put_word.Goals as goal
 pub returns : goal.returns
 returns c =
     let block = c.args.block.now in
-    ap words_of (c.put-bytes.ensures ∙ ap (λ xs. placed (2 * c.args.i) xs block) c.to-le-bytes.ensures)
+    ap words_of (c.put_bytes.ensures ∙ ap (λ xs. placed (2 * c.args.i) xs block) c.to_le_bytes.ensures)
     ∙ word_put block c.args.i c.args.w c.told-block c.requires c.ranges.w.fits

@@ -1,4 +1,4 @@
-use Rattle.std.proofs.Common.{◌≡◌, ◌+◌, ◌<◌, ◌≤◌, length, get_or, set, sym, refl, ap, ◌∙◌, arith}
+use Rattle.std.proofs.Common.{◌≡◌, ◌+◌, ◌<◌, length, get_or, set, sym, refl, ap, ◌∙◌, arith}
 use lib.Seq.{paste}
 use Rattle.std.proofs.lemmas.List.Edits.{paste_none, paste_more, paste_all}
 use Rattle.std.proofs.lemmas.Bool.{true≢false, le-leb}
@@ -15,7 +15,7 @@ loop-k-preserved c =
     let new = c.args.new.now in
     let k = c.loop-k.k in
     let room : c.args.first + k < length start = omega (arith, words_long c.args.block.now) in
-    c.put-word.ensures ∙ ap (λ xs. set xs (c.args.first + k) (get_or new k 0)) c.loop-k.invariant ∙ paste_more start c.args.first new k 0 room c.loop-k-test.true
+    c.put_word.ensures ∙ ap (λ xs. set xs (c.args.first + k) (get_or new k 0)) c.loop-k.invariant ∙ paste_more start c.args.first new k 0 room c.loop-k-test.true
 
 pub returns : goal.returns
 returns c =

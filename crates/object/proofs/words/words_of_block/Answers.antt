@@ -1,4 +1,4 @@
-use Rattle.std.proofs.Common.{◌≡◌, ◌+◌, ◌*◌, ◌<◌, ◌≢◌, length, get_or, set, sym, ap, ◌∙◌, arith}
+use Rattle.std.proofs.Common.{◌<◌, length, ◌∙◌, arith}
 use Rattle.std.proofs.lemmas.List.FromFn.{fill_by_all}
 use Rattle.std.proofs.lemmas.List.Edits.{fill_by_more}
 use Rattle.std.proofs.lemmas.List.{length-set}
@@ -10,9 +10,9 @@ loop-i-preserved c =
     let words = c.loop-i.words in
     let i = c.loop-i.i in
     let within : i < length words = omega (arith, c.loop-i.invariant.0) in
-    let put = c.from-le-bytes.result in (
+    let put = c.from_le_bytes.result in (
       length-set words i put ∙ c.loop-i.invariant.0,
-      rw c.from-le-bytes.ensures (fill_by_more (word_at c.args.block.now) words i 0 within c.loop-i.invariant.1),
+      rw c.from_le_bytes.ensures (fill_by_more (word_at c.args.block.now) words i 0 within c.loop-i.invariant.1),
     )
 
 pub returns : goal.returns

@@ -13,10 +13,10 @@ put-requires g c =
     let plan = copies (take c.loop-i.i c.args.job.now.parts) c.args.from in
     omega (arith, ap length c.loop-i.invariant.0, wrote_length start plan)
 
-pub returns-in-err-put : goal.returns-in-err-put
-returns-in-err-put g c =
-    let p = err_from_is_err_and c.from-residual.result c.from-residual.ensures.1 in
-    let ended = c.in-err-put.ensures in
+pub returns-in_err-put : goal.returns-in_err-put
+returns-in_err-put g c =
+    let p = err_from_is_err_and c.from_residual.result c.from_residual.ensures.1 in
+    let ended = c.in_err-put.ensures in
     let blocks = g.D.Device.blocks in
     rw p.1 (
       cut_copies c.args.job.now.parts c.loop-i.i c.args.from (omega arith)
@@ -26,7 +26,7 @@ returns-in-err-put g c =
 
 pub loop-i-preserved : goal.loop-i-preserved
 loop-i-preserved g c =
-    let done = c.in-ok-put.ensures in
+    let done = c.in_ok-put.ensures in
     let blocks = g.D.Device.blocks in (
       wrote_more c.args.job.now.parts c.loop-i.i c.args.from (omega arith)
           (blocks c.args.device.now) (blocks c.loop-i.device) (blocks c.put.new.device) c.loop-i.invariant.0 done.0,

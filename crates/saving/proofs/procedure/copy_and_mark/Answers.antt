@@ -5,10 +5,10 @@ use Rattle.device.specs.Plans.{write}
 use Rattle.saving.specs.Procedure.{copies, marker_block}
 use Rattle.saving.proofs.procedure.copy_and_mark.Goals as goal
 
-pub returns-in-err-copy : goal.returns-in-err-copy
-returns-in-err-copy g c =
-    let p = err_from_is_err_and c.from-residual.result c.from-residual.ensures.1 in
-    let ended = c.in-err-copy.ensures in
+pub returns-in_err-copy : goal.returns-in_err-copy
+returns-in_err-copy g c =
+    let p = err_from_is_err_and c.from_residual.result c.from_residual.ensures.1 in
+    let ended = c.in_err-copy.ensures in
     let blocks = g.D.Device.blocks in
     rw p.1
     (cut_front (blocks c.args.device.now) (copies c.args.job.now.parts c.args.from) (write 16 (marker_block c.args.mark) ∷ []) (blocks c.copy.new.device) ended.0, ended.1)
@@ -16,13 +16,13 @@ returns-in-err-copy g c =
 pub put-requires : goal.put-requires
 put-requires g c =
     let start = g.D.Device.blocks c.args.device.now in
-    omega (arith, ap length c.in-ok-copy.ensures.0, wrote_length start (copies c.args.job.now.parts c.args.from))
+    omega (arith, ap length c.in_ok-copy.ensures.0, wrote_length start (copies c.args.job.now.parts c.args.from))
 
 pub returns : goal.returns
 returns g c =
     let blocks = g.D.Device.blocks in
     let lit = g.D.Device.lit in
-    let whole = c.in-ok-copy.ensures in
+    let whole = c.in_ok-copy.ensures in
     runs_on (blocks c.args.device.now) (blocks c.copy.new.device) (blocks c.put.new.device)
     (lit c.args.device.now) (lit c.copy.new.device) (lit c.put.new.device)
     (copies c.args.job.now.parts c.args.from) (write 16 (marker_block c.args.mark) ∷ []) c.put.result

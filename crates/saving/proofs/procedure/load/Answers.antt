@@ -6,13 +6,13 @@ use Rattle.saving.specs.Procedure.{bytes_in, loaded}
 use Rattle.saving.proofs.Loading.{unread}
 use Rattle.saving.proofs.procedure.load.Goals as goal
 
-pub returns-in-default : goal.returns-in-default
-returns-in-default g c =
+pub returns-in_default : goal.returns-in_default
+returns-in_default g c =
     let blocks = g.D.Device.blocks c.args.device.now in
     let at = c.args.from + c.loop-i.i in
     let within : at < length blocks = omega arith in
     sym (gathered_none (λ b. bytes_in (block_at blocks b)) 8 c.args.from c.loop-i.i (omega arith)
-    (ap bytes_in (unread blocks (g.D.Device.lit c.args.device.now) at c.read.result _ c.read.new.buffer within c.requires.1.1 c.in-default.not-Done c.read.ensures)))
+    (ap bytes_in (unread blocks (g.D.Device.lit c.args.device.now) at c.read.result _ c.read.new.buffer within c.requires.1.1 c.in_default.not-Done c.read.ensures)))
 
 pub loop-i-preserved : goal.loop-i-preserved
 loop-i-preserved g c =

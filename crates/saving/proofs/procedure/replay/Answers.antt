@@ -19,19 +19,19 @@ judge-outcome-requires g c =
     let lit_up = c.light.new.self in
     let end = c.recover.new.device in
     let long = runs_length (d.blocks lit_up) true (recovery_plan (d.blocks lit_up)) (d.blocks end) (d.lit end) c.recover.result c.recover.ensures in
-    let whole = runs_whole (d.blocks lit_up) true (recovery_plan (d.blocks lit_up)) (d.blocks end) (d.lit end) c.recover.result (sym c.is-ok.ensures.value ∙ c.if-is-ok.true) c.recover.ensures in
+    let whole = runs_whole (d.blocks lit_up) true (recovery_plan (d.blocks lit_up)) (d.blocks end) (d.lit end) c.recover.result (sym c.is_ok.ensures.value ∙ c.if-is_ok.true) c.recover.ensures in
     (omega (arith, ap length c.light.ensures.same, c.loop-cuts.invariant.0), whole.1 refl)
 
-pub returns-then-is-ok : goal.returns-then-is-ok
-returns-then-is-ok g c =
+pub returns-then-is_ok : goal.returns-then-is_ok
+returns-then-is_ok g c =
     let d = g.D.Device in
     let entry = c.args.device.now in
     let saved = c.save.new.device in
     let lit_up = c.light.new.self in
     let end = c.recover.new.device in
-    let whole = runs_whole (d.blocks lit_up) true (recovery_plan (d.blocks lit_up)) (d.blocks end) (d.lit end) c.recover.result (sym c.is-ok.ensures.value ∙ c.if-is-ok.true) c.recover.ensures in
-    let first = rw (← c.is-ok-saved.ensures.value) at (runs_ended (d.blocks entry) (d.lit entry) (save_plan c.args.new.now.parts) (d.blocks saved) (d.lit saved) c.save.result c.save.ensures) in
-    ended (d.blocks entry) c.args.old.now.parts c.args.new.now.parts c.is-ok-saved.result c.loop-cuts.cuts c.judge-outcome.result (d.blocks end)
+    let whole = runs_whole (d.blocks lit_up) true (recovery_plan (d.blocks lit_up)) (d.blocks end) (d.lit end) c.recover.result (sym c.is_ok.ensures.value ∙ c.if-is_ok.true) c.recover.ensures in
+    let first = rw (← c.is_ok-saved.ensures.value) at (runs_ended (d.blocks entry) (d.lit entry) (save_plan c.args.new.now.parts) (d.blocks saved) (d.lit saved) c.save.result c.save.ensures) in
+    ended (d.blocks entry) c.args.old.now.parts c.args.new.now.parts c.is_ok-saved.result c.loop-cuts.cuts c.judge-outcome.result (d.blocks end)
     (record {
       last = d.blocks lit_up;
       before = record { saved = d.blocks saved; first = first; again = subst (CutShort c.loop-cuts.cuts (d.blocks saved)) (sym c.light.ensures.same) c.loop-cuts.invariant.1 };
@@ -46,7 +46,7 @@ loop-cuts-preserved g c =
     let lit_up = c.light.new.self in
     let end = c.recover.new.device in
     let long = runs_length (d.blocks lit_up) true (recovery_plan (d.blocks lit_up)) (d.blocks end) (d.lit end) c.recover.result c.recover.ensures in
-    let cut = runs_cut (d.blocks lit_up) true (recovery_plan (d.blocks lit_up)) (d.blocks end) (d.lit end) c.recover.result (sym c.is-ok.ensures.value ∙ c.if-is-ok.false) c.recover.ensures in (
+    let cut = runs_cut (d.blocks lit_up) true (recovery_plan (d.blocks lit_up)) (d.blocks end) (d.lit end) c.recover.result (sym c.is_ok.ensures.value ∙ c.if-is_ok.false) c.recover.ensures in (
       omega (arith, ap length c.light.ensures.same, c.loop-cuts.invariant.0),
       CutShort.more (subst (CutShort c.loop-cuts.cuts (d.blocks saved)) (sym c.light.ensures.same) c.loop-cuts.invariant.1) cut.0,
     )
@@ -56,6 +56,6 @@ returns g c =
     let d = g.D.Device in
     let entry = c.args.device.now in
     let saved = c.save.new.device in
-    let first = rw (← c.is-ok-saved.ensures.value) at (runs_ended (d.blocks entry) (d.lit entry) (save_plan c.args.new.now.parts) (d.blocks saved) (d.lit saved) c.save.result c.save.ensures) in
+    let first = rw (← c.is_ok-saved.ensures.value) at (runs_ended (d.blocks entry) (d.lit entry) (save_plan c.args.new.now.parts) (d.blocks saved) (d.lit saved) c.save.result c.save.ensures) in
     let nine : c.loop-cuts.cuts ≡ 9 = omega arith in
     (omega arith, record { saved = d.blocks saved; first = first; again = rw nine at c.loop-cuts.invariant.1 })
