@@ -1,6 +1,6 @@
 -- Copying one part more, and power that fails while copying.
-use Rattle.std.proofs.Common.{◌≡◌, ℕ, ◌+◌, ◌<◌, List, [], ◌∷◌, ◌++◌, length, get_or, take, drop, set, sym, refl, ap, ◌∙◌, subst, arith}
-use Rattle.std.proofs.lemmas.List.{take-append-drop, drop_more, length-take-le, take_more, append_assoc}
+use Rattle.std.proofs.Common.{◌≡◌, ℕ, ◌+◌, ◌<◌, List, [], ◌∷◌, ◌++◌, length, get_or, take, drop, set, sym, ap, ◌∙◌, subst, arith}
+use Rattle.std.proofs.lemmas.List.{take-append-drop, length-take-le, take_more}
 use Rattle.device.specs.Blocks.{Block}
 use Rattle.device.specs.PlanLaws.{wrote_append, cut_front, cut_back}
 use Rattle.device.specs.Plans.{Write, write, wrote, CutIn}

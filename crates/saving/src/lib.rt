@@ -1,5 +1,6 @@
 // The save procedure that controllers use today, and how a replay of it ends when power fails.
 #![tactic(auto)]
+
 mod job;
 mod outcome;
 mod procedure;

@@ -1,18 +1,16 @@
 -- Why each slot of the table of claims has the lowest block that counts for it.
-use Rattle.std.proofs.Common.{◌≡◌, ℕ, zero, suc, ◌+◌, ◌-◌, ◌*◌, ◌/◌, ◌%◌, ◌<◌, ◌≤◌, Bool, true, false, cond, not, ◌&&◌, eqb, leb, ◌≢◌, List, length, get_or, drop, set, replicate, Some, None, Option, sym, refl, ap, ◌∙◌, subst, ap₂, ⊎_elim, arith}
+use Rattle.std.proofs.Common.{◌≡◌, ℕ, zero, suc, ◌+◌, ◌*◌, ◌<◌, ◌≤◌, Bool, true, false, cond, not, ◌&&◌, eqb, leb, ◌≢◌, List, length, get_or, drop, set, Some, None, Option, sym, refl, ap, ◌∙◌, subst, ap₂, ⊎_elim, arith}
 use Rattle.std.proofs.lemmas.List.{length-set, get_or-set_same, get_or-set_other, get_or-replicate, get_or_past, set_past, at_drop_more, at_drop_all}
-use Rattle.std.proofs.lemmas.Bool.{and_parts, and_from, leb-true, eqb-true, eq-eqb, ne_eqb, cases_eq, cases_Bool, true≢false}
-use Rattle.map.specs.Addresses.{cylinder_of, sector_of, root_place}
+use Rattle.std.proofs.lemmas.Bool.{and_parts, and_from, leb-true, eq-eqb, ne_eqb, cases_eq, cases_Bool, true≢false}
+use Rattle.map.specs.Addresses.{sector_of, root_place}
 use Rattle.map.specs.Entries.{fits_entry, Named}
-use Rattle.map.specs.declared.entry.DataState.{DataState}
 use Rattle.map.specs.declared.entry.Entry.{Entry}
 use Rattle.map.specs.declared.entry.Entry.TheVariants.{Map, Free, Root, Data}
 use Rattle.map.specs.declared.identifier.Identifier.{Identifier}
 use Rattle.volume.specs.ClaimTable.{claim_slot, entry_slot, doubled, claimed, filled_to, claimed_from, first_doubled, TableLaw}
-use Rattle.volume.specs.Counting.{Entries, counts, for_position, claims, counted_at, address_or_0}
+use Rattle.volume.specs.Counting.{Entries, counts, for_position, claims, address_or_0}
 use Rattle.volume.specs.Rebuilding.{FitVolume}
 use Rattle.volume.specs.Search.{lowest, or_else}
-use Rattle.volume.specs.Tables.{root_slot}
 use Rattle.volume.proofs.Fitting.{data_fits, claim_for}
 use Rattle.volume.proofs.Searching.{lowest_finds}
 

@@ -1,15 +1,14 @@
 -- Why setting a commit bit changes one object and nothing else.
-use Rattle.std.proofs.Common.{◌≡◌, ℕ, ◌<◌, Bool, true, false, cond, not, ◌&&◌, eqb, Some, None, Option, sym, refl, ap, ◌∙◌, subst, ap₂, ⊎_elim, arith}
-use Rattle.std.proofs.lemmas.Bool.{eq-eqb, ne_eqb, eqb-true, cases_eq, cases_Bool, and_parts, true≢false}
+use Rattle.std.proofs.Common.{◌≡◌, ℕ, ◌<◌, Bool, true, false, cond, Some, None, Option, sym, refl, ap, ◌∙◌, arith}
+use Rattle.std.proofs.lemmas.Bool.{eq-eqb, ne_eqb, true≢false}
 use Rattle.map.specs.declared.entry.DataState.{DataState}
 use Rattle.map.specs.declared.entry.DataState.TheVariants as data_state
-use Rattle.map.specs.declared.entry.Entry.{Entry}
-use Rattle.map.specs.declared.entry.Entry.TheVariants.{Map, Free, Root, Data}
+use Rattle.map.specs.declared.entry.Entry.TheVariants.{Free, Root}
 use Rattle.map.specs.declared.entry.RootState.{RootState}
 use Rattle.map.specs.declared.entry.RootState.TheVariants as root_state
 use Rattle.map.specs.declared.kind.Kind.{Kind}
-use Rattle.volume.specs.Committing.{state_for, NeverIn, Becomes, marked, with_bit, CommitLaw, RemovalLaw, with_object, CreateLaw}
-use Rattle.volume.specs.Counting.{Entries, remains_as, bit, has_tag, state_counts, counts, for_position, claims, counted_at, held}
+use Rattle.volume.specs.Committing.{state_for, Becomes, marked, with_bit, CommitLaw, RemovalLaw, with_object, CreateLaw}
+use Rattle.volume.specs.Counting.{Entries, remains_as, bit, for_position, claims, counted_at, held}
 use Rattle.volume.proofs.OneRoot.{claims_judged, others_claim, others_stay}
 use Rattle.volume.proofs.Claiming.{judged, own_claims, gone_claims}
 use Rattle.volume.proofs.Searching.{lowest_below, lowest_none, lowest_first}

@@ -1,23 +1,19 @@
 -- Why losing one map loses nothing while root blocks agree with the maps.
-use Rattle.std.proofs.Common.{◌≡◌, ℕ, ◌+◌, ◌*◌, ◌/◌, ◌%◌, ◌<◌, ◌≤◌, Bool, true, false, cond, not, ◌&&◌, eqb, ltb, leb, ◌≢◌, List, map, get_or, Some, None, Option, sym, refl, ap, ◌∙◌, subst, ap₂, ⊎_elim, arith}
+use Rattle.std.proofs.Common.{◌≡◌, ℕ, ◌+◌, ◌*◌, ◌/◌, ◌%◌, ◌<◌, ◌≤◌, Bool, true, false, cond, not, ◌&&◌, eqb, ltb, leb, get_or, Some, None, Option, sym, refl, ap, ◌∙◌, subst, ap₂, ⊎_elim, arith}
 use Rattle.std.proofs.lemmas.Nat.{mod_below}
-use Rattle.std.proofs.lemmas.List.FromFn.{get_or-map-range_with_len}
-use Rattle.std.proofs.lemmas.Bool.{and_parts, and_from, ltb-true, leb-true, eqb-true, eq-eqb, ne_eqb, cases_eq, cases_Bool, true≢false, eqb-false, leb-false, and_cases}
+use Rattle.std.proofs.lemmas.Bool.{and_parts, and_from, leb-true, eqb-true, eq-eqb, ne_eqb, true≢false, eqb-false, leb-false, and_cases}
 use Rattle.map.specs.Addresses.{cylinder_of, sector_of, root_place}
 use Rattle.map.specs.Entries.{fits_entry, Named}
-use Rattle.map.specs.Identifiers.{is_tag, is_identifier}
+use Rattle.map.specs.Identifiers.{is_tag}
 use Rattle.map.specs.declared.entry.DataState.{DataState}
 use Rattle.map.specs.declared.entry.DataState.TheVariants as data_state
 use Rattle.map.specs.declared.entry.Entry.{Entry}
 use Rattle.map.specs.declared.entry.Entry.TheVariants.{Map, Free, Root, Data}
-use Rattle.map.specs.declared.entry.RootState.{RootState}
-use Rattle.map.specs.declared.entry.RootState.TheVariants as root_state
 use Rattle.map.specs.declared.identifier.Identifier.{Identifier}
 use Rattle.object.specs.declared.root.RootBlock.{RootBlock}
 use Rattle.object.specs.declared.root.RootBlock.TheVariants.{Dead, Live}
 use Rattle.volume.specs.Committing.{state_for}
-use Rattle.volume.specs.Counting.{Entries, Held, remains_as, bit, has_tag, state_counts, counts, for_position, claims, counted_at, address_or_0, counted_addresses, due_for, due}
-use Rattle.volume.specs.Laws.{Same}
+use Rattle.volume.specs.Counting.{Entries, Held, remains_as, bit, has_tag, state_counts, counts, for_position, claims, counted_at, address_or_0, counted_addresses, due_for}
 use Rattle.volume.specs.Search.{lowest}
 use Rattle.volume.specs.Rebuilding.{RootBlocks, block_holds, holds, holder, held_entry, data_entry, shows, rebuilt_bit, root_entry, rebuilt_entry, rebuilt, Agree, FitVolume, SingleClaims, LostMapLaw}
 use Rattle.volume.proofs.Claiming.{judged, own_claims, gone_claims}

@@ -1,10 +1,9 @@
 -- Why a volume at rest shows what counts.
-use Rattle.std.proofs.Common.{◌≡◌, ℕ, ◌+◌, ◌*◌, ◌/◌, ◌%◌, ◌<◌, ◌≤◌, Bool, true, false, cond, ◌&&◌, eqb, leb, List, length, get_or, Some, None, Option, sym, refl, ap, ◌∙◌, subst, ap₂, ⊎_elim, arith}
+use Rattle.std.proofs.Common.{◌≡◌, ℕ, ◌*◌, ◌<◌, ◌≤◌, Bool, true, false, cond, ◌&&◌, eqb, List, get_or, Some, None, Option, sym, refl, ap, ◌∙◌, subst, ap₂, ⊎_elim, arith}
 use mathlib.Core.Path.{fun_ext}
 use Rattle.std.proofs.lemmas.List.FromFn.{length-map-range_with_len}
 use Rattle.std.proofs.lemmas.List.{get_or_past}
-use Rattle.std.proofs.lemmas.Bool.{and_parts, and_from, leb-true, eq-eqb, ne_eqb, cases_eq, cases_lt, cases_Bool, true≢false}
-use Rattle.std.specs.List.{range_with_len}
+use Rattle.std.proofs.lemmas.Bool.{and_parts, and_from, eq-eqb, ne_eqb, cases_lt, true≢false}
 use Rattle.device.specs.Blocks.{Block, block_at}
 use Rattle.map.specs.Addresses.{cylinder_of, sector_of, root_place}
 use Rattle.map.specs.Entries.{fits_entry, Named}
@@ -15,12 +14,10 @@ use Rattle.map.specs.declared.entry.Entry.{Entry}
 use Rattle.map.specs.declared.entry.Entry.TheVariants.{Map, Free, Root, Data}
 use Rattle.map.specs.declared.entry.RootState.TheVariants as root_state
 use Rattle.map.specs.declared.identifier.Identifier.{Identifier}
-use Rattle.map.specs.declared.kind.Kind.{Kind}
-use Rattle.volume.specs.Counting.{Entries, Held, held, remains_as, has_tag, counts, for_position, claims, counted_at, address_or_0, counted_addresses, due_for, due}
-use Rattle.volume.specs.Meeting.{Usable, Quiet, Rest, HeldOnce, MeetingLaw}
-use Rattle.volume.specs.Rebuilding.{Agree, FitVolume, SingleClaims, block_holds}
-use Rattle.volume.specs.Search.{lowest}
-use Rattle.volume.specs.Volume.{cylinders_of, map_in, map_at, entry_in, entry_at, root_in, root_at, is_unreadable, lost_map, entries_with, restart_entries, content, object_of, counted, some_address, live_object, existing, shown}
+use Rattle.volume.specs.Counting.{remains_as, counts, for_position, claims, counted_at, address_or_0, counted_addresses, due_for}
+use Rattle.volume.specs.Meeting.{Quiet, Rest, MeetingLaw}
+use Rattle.volume.specs.Rebuilding.{FitVolume, block_holds}
+use Rattle.volume.specs.Volume.{cylinders_of, entry_at, root_in, root_at, entries_with, restart_entries, content, object_of, counted, some_address, live_object, existing, shown}
 use Rattle.volume.proofs.Fitting.{address_at, data_fits, claim_for}
 use Rattle.volume.proofs.LostMap.{holds_is}
 use Rattle.volume.proofs.Reading.{usable_none_lost, usable_fits}

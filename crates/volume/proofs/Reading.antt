@@ -1,14 +1,13 @@
 -- What is read from the blocks of a volume: entries that fit, and what a store leaves of them.
-use Rattle.std.proofs.Common.{◌≡◌, ℕ, ◌+◌, ◌*◌, ◌/◌, ◌%◌, ◌<◌, ◌≤◌, Bool, true, false, ◌≢◌, List, length, get_or, set, Some, None, Option, sym, refl, ap, ◌∙◌, subst, ap₂, arith}
+use Rattle.std.proofs.Common.{◌≡◌, ℕ, ◌+◌, ◌*◌, ◌<◌, true, false, List, get_or, Some, None, sym, refl, ap, ◌∙◌, subst, ap₂, arith}
 use Rattle.std.proofs.lemmas.Nat.{mod_below}
-use Rattle.std.proofs.lemmas.List.{length-set, get_or-set_other}
 use Rattle.device.specs.Blocks.{Block, block_at}
 use Rattle.device.specs.Gathers.{gathered_each}
-use Rattle.map.specs.Addresses.{cylinder_of, sector_of, root_place}
+use Rattle.map.specs.Addresses.{cylinder_of, sector_of}
 use Rattle.map.specs.Entries.{fits_entry, Named}
 use Rattle.map.specs.Maps.{decoded_sector, decoded_map, entry_part}
 use Rattle.map.specs.declared.entry.Entry.{Entry}
-use Rattle.map.specs.declared.entry.Entry.TheVariants.{Map, Free}
+use Rattle.map.specs.declared.entry.Entry.TheVariants.{Map}
 use Rattle.map.specs.EntryLaws.{entry_bytes, entry_named}
 use Rattle.volume.specs.Meeting.{Usable}
 use Rattle.volume.specs.Rebuilding.{FitVolume}

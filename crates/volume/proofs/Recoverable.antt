@@ -1,7 +1,6 @@
 -- Why these stores keep a volume recoverable, with the same meaning.
 use Rattle.std.proofs.Common.{◌≡◌, ℕ, ◌*◌, ◌<◌, List, set, Option, refl, ap, ◌∙◌, arith}
 use Rattle.device.specs.Blocks.{Block}
-use Rattle.map.specs.Addresses.{root_place}
 use Rattle.volume.specs.Counting.{counted_at}
 use Rattle.volume.specs.Rebuilding.{Agree}
 use Rattle.volume.specs.Recoverable.{Complete, Recoverable, Meaning, KeptByStores}

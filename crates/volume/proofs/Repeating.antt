@@ -1,6 +1,5 @@
 -- Why doing it twice is doing it once, and why a sound volume stays acceptable.
-use Rattle.std.proofs.Common.{◌≡◌, ℕ, ◌*◌, ◌/◌, ◌%◌, ◌<◌, Bool, true, false, cond, ◌&&◌, eqb, List, Some, None, Option, sym, refl, ap, ◌∙◌, arith}
-use mathlib.Core.Path.{fun_ext}
+use Rattle.std.proofs.Common.{◌≡◌, ℕ, ◌*◌, ◌<◌, Bool, true, false, cond, ◌&&◌, List, None, sym, refl, ap, ◌∙◌, arith}
 use Rattle.std.proofs.lemmas.Bool.{and_parts, true≢false}
 use Rattle.device.specs.Blocks.{Block, block_at}
 use Rattle.map.specs.Addresses.{cylinder_of, root_place}
@@ -11,8 +10,8 @@ use Rattle.map.specs.declared.entry.RootState.TheVariants as root_state
 use Rattle.map.specs.declared.identifier.Identifier.{Identifier}
 use Rattle.volume.specs.Counting.{Entries, remains_as, bit, has_tag, state_counts, counts, claims, due}
 use Rattle.volume.specs.MapStores.{Sound}
-use Rattle.volume.specs.Rebuilding.{RootBlocks, block_holds, rebuilt, rebuilt_entry}
-use Rattle.volume.specs.Repeating.{Once, Acceptable, LostAccepted}
+use Rattle.volume.specs.Rebuilding.{block_holds, rebuilt, rebuilt_entry}
+use Rattle.volume.specs.Repeating.{Once, LostAccepted}
 use Rattle.volume.specs.Settling.{settled, cleared}
 use Rattle.volume.specs.Volume.{cylinders_of, entry_at, root_in, root_at}
 use Rattle.volume.proofs.Fitting.{claim_for}

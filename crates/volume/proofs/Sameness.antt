@@ -1,15 +1,11 @@
 -- What makes two states of the maps count the same, and the laws that follow.
-use Rattle.std.proofs.Common.{◌≡◌, ℕ, ◌<◌, Bool, true, false, cond, not, ◌&&◌, List, map, Some, None, Option, sym, refl, ap, ◌∙◌, ap₂, arith}
+use Rattle.std.proofs.Common.{◌≡◌, ℕ, ◌<◌, Bool, true, false, cond, not, ◌&&◌, List, map, None, sym, refl, ap, ◌∙◌, ap₂}
 use Rattle.std.proofs.lemmas.Bool.{and_parts}
 use Rattle.std.specs.List.{range_with_len}
-use Rattle.map.specs.declared.entry.DataState.{DataState}
 use Rattle.map.specs.declared.entry.DataState.TheVariants as data_state
 use Rattle.map.specs.declared.entry.Entry.{Entry}
 use Rattle.map.specs.declared.entry.Entry.TheVariants.{Map, Free, Root, Data}
-use Rattle.map.specs.declared.entry.RootState.{RootState}
 use Rattle.map.specs.declared.entry.RootState.TheVariants as root_state
-use Rattle.map.specs.declared.identifier.Identifier.{Identifier}
-use Rattle.map.specs.declared.kind.Kind.{Kind}
 use Rattle.volume.specs.Counting.{Entries, remains_as, bit, has_tag, state_counts, counts, for_position, claims, counted_at, address_or_0, counted_addresses, due_for, due}
 use Rattle.volume.specs.Laws.{Same, changed, SettlingLaw, AtRest, ClearingLaw, Intends, IntentionLaw}
 use Rattle.volume.specs.Settling.{settled, cleared}

@@ -1,8 +1,8 @@
 -- Why a store away from the maps leaves the entries, and what follows.
-use Rattle.std.proofs.Common.{◌≡◌, ℕ, ◌+◌, ◌*◌, ◌/◌, ◌%◌, ◌<◌, ◌≤◌, Bool, true, false, cond, ◌&&◌, eqb, leb, ◌≢◌, List, length, get_or, set, Some, None, Option, sym, refl, ap, ◌∙◌, subst, ap₂, ⊎_elim, arith}
+use Rattle.std.proofs.Common.{◌≡◌, ℕ, ◌*◌, ◌/◌, ◌%◌, ◌<◌, ◌≤◌, Bool, true, false, cond, leb, ◌≢◌, List, length, set, Some, None, Option, sym, refl, ap, ◌∙◌, subst, ap₂, ⊎_elim, arith}
 use mathlib.Core.Path.{fun_ext}
 use Rattle.std.proofs.lemmas.List.{length-set, get_or-set_same, get_or-set_other}
-use Rattle.std.proofs.lemmas.Bool.{and_parts, leb-true, eq-eqb, ne_eqb, cases_eq, true≢false}
+use Rattle.std.proofs.lemmas.Bool.{and_parts, leb-true, eq-eqb, ne_eqb, cases_eq}
 use Rattle.device.specs.Blocks.{Block, block_at}
 use Rattle.map.specs.Addresses.{cylinder_of, sector_of, root_place}
 use Rattle.map.specs.Entries.{fits_entry, Named}
@@ -10,8 +10,8 @@ use Rattle.map.specs.declared.entry.DataState.{DataState}
 use Rattle.map.specs.declared.entry.Entry.{Entry}
 use Rattle.map.specs.declared.entry.Entry.TheVariants.{Free, Data}
 use Rattle.map.specs.declared.identifier.Identifier.{Identifier}
-use Rattle.volume.specs.Counting.{Entries, Held, remains_as, counted_at, claims}
-use Rattle.volume.specs.Rebuilding.{RootBlocks, rebuilt}
+use Rattle.volume.specs.Counting.{Entries, remains_as, counted_at, claims}
+use Rattle.volume.specs.Rebuilding.{rebuilt}
 use Rattle.volume.specs.Search.{lowest}
 use Rattle.volume.specs.Stores.{content_after, DataBlockLaw, FreeBlockLaw, RootBlockLaw}
 use Rattle.volume.specs.Volume.{cylinders_of, map_in, map_at, entry_in, entry_at, root_in, root_at, is_unreadable, lost_map, entries_with, restart_entries, words_in, content, object_of, counted}

@@ -7,7 +7,7 @@
 --   filled_to    the table after the addresses below m
 --   claimed_from, first_doubled   the same for the entries of one map, and the first that finds its slot taken
 --   TableLaw    then each slot has the lowest block that counts for it
-use Rattle.std.specs.Prelude.{◌≡◌, ℕ, zero, suc, ◌+◌, ◌*◌, ◌<◌, ◌≤◌, Bool, true, false, cond, not, ◌&&◌, List, [], ◌∷◌, replicate, Some, None, Option, ◌==◌, slice_index, slice_set}
+use Rattle.std.specs.Prelude.{◌≡◌, ℕ, zero, suc, ◌+◌, ◌*◌, ◌<◌, ◌≤◌, Bool, true, cond, not, ◌&&◌, List, [], ◌∷◌, replicate, Some, None, Option, ◌==◌, slice_index, slice_set}
 use Rattle.map.specs.Addresses.{root_place}
 use Rattle.map.specs.declared.entry.Entry.{Entry}
 use Rattle.map.specs.declared.entry.Entry.TheVariants.{Map, Free, Root, Data}

@@ -4,7 +4,7 @@
 --   with_bit    the entries with the commit bit of one root place set
 --   with_object  the entries with a new object's root entry
 --   CommitLaw, RemovalLaw, CreateLaw
-use Rattle.std.specs.Prelude.{◌≡◌, ℕ, ◌<◌, Bool, true, false, cond, ◌&&◌, Some, None, Option, ◌==◌, ◌≢◌}
+use Rattle.std.specs.Prelude.{◌≡◌, ℕ, ◌<◌, true, false, cond, ◌&&◌, Some, None, Option, ◌==◌, ◌≢◌}
 use Rattle.map.specs.declared.entry.DataState.{DataState}
 use Rattle.map.specs.declared.entry.DataState.TheVariants as data_state
 use Rattle.map.specs.declared.entry.Entry.{Entry}

@@ -3,12 +3,11 @@
 --   changed     the entries with those of some sectors changed
 --   Intends     an entry that is marked with an intention of an object whose commit bit is not set
 --   SettlingLaw, ClearingLaw, IntentionLaw
-use Rattle.std.specs.Prelude.{◌≡◌, ℕ, ◌<◌, Bool, true, false, cond, Option}
+use Rattle.std.specs.Prelude.{◌≡◌, ℕ, ◌<◌, Bool, false, cond}
 use Rattle.map.specs.declared.entry.DataState.TheVariants as data_state
 use Rattle.map.specs.declared.entry.Entry.{Entry}
 use Rattle.map.specs.declared.entry.Entry.TheVariants.{Map, Free, Root, Data}
 use Rattle.map.specs.declared.identifier.Identifier.{Identifier}
-use Rattle.object.specs.declared.root.RootBlock.{RootBlock}
 use Rattle.volume.specs.Counting.{Entries, remains_as, bit, claims, counted_at, due}
 use Rattle.volume.specs.Settling.{settled, cleared}
 

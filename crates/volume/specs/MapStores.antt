@@ -4,7 +4,7 @@
 --   TornMapLaw   while a volume is sound, losing any one map changes nothing that a restart would show
 --   map_changed    the entries with those of one cylinder taken from a list
 --   MapStoreLaw  a map that is stored whole changes the entries of its cylinder to those that were written
-use Rattle.std.specs.Prelude.{◌≡◌, ℕ, ◌*◌, ◌<◌, Bool, cond, List, length, Some, ◌==◌, slice_index_or, slice_set}
+use Rattle.std.specs.Prelude.{◌≡◌, ℕ, ◌*◌, ◌<◌, cond, List, Some, ◌==◌, slice_index_or, slice_set}
 use Rattle.device.specs.Blocks.{Block}
 use Rattle.map.specs.Addresses.{cylinder_of, sector_of}
 use Rattle.map.specs.Maps.{decoded_map}

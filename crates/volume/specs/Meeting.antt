@@ -4,7 +4,7 @@
 --   Rest          usable, every entry quiet, no two counted entries for one position, root blocks as they are due
 --   HeldOnce     a data block is allocated exactly when one root block holds it, at one position
 --   MeetingLaw
-use Rattle.std.specs.Prelude.{◌≡◌, ℕ, ◌*◌, ◌<◌, true, false, List, get_or, Some}
+use Rattle.std.specs.Prelude.{◌≡◌, ℕ, ◌*◌, ◌<◌, true, false, List, Some}
 use Rattle.device.specs.Blocks.{Block}
 use Rattle.map.specs.declared.entry.DataState.TheVariants as data_state
 use Rattle.map.specs.declared.entry.Entry.{Entry}

@@ -7,14 +7,13 @@
 --   rebuilt        the entries with those of cylinder c rebuilt from the root blocks
 --   Agree          every root block is the one that is due
 --   LostMapLaw
-use Rattle.std.specs.Prelude.{◌≡◌, ℕ, ◌+◌, ◌*◌, ◌/◌, ◌%◌, ◌<◌, Bool, true, false, cond, not, ◌&&◌, List, Some, None, Option, ◌==◌, slice_index}
+use Rattle.std.specs.Prelude.{◌≡◌, ℕ, ◌*◌, ◌/◌, ◌%◌, ◌<◌, Bool, true, false, cond, not, ◌&&◌, List, Some, None, Option, ◌==◌, slice_index}
 use Rattle.map.specs.Addresses.{cylinder_of, sector_of, root_place}
 use Rattle.map.specs.Entries.{fits_entry, Named}
 use Rattle.map.specs.declared.entry.DataState.TheVariants as data_state
 use Rattle.map.specs.declared.entry.Entry.{Entry}
 use Rattle.map.specs.declared.entry.Entry.TheVariants.{Map, Free, Root, Data}
 use Rattle.map.specs.declared.entry.RootState.TheVariants as root_state
-use Rattle.map.specs.declared.identifier.Identifier.{Identifier}
 use Rattle.object.specs.declared.root.RootBlock.{RootBlock}
 use Rattle.object.specs.declared.root.RootBlock.TheVariants.{Dead, Live}
 use Rattle.volume.specs.Counting.{Entries, claims, due}

@@ -6,7 +6,7 @@
 --   Meaning      a recoverable volume together with the objects that a restart would show
 --   KeptByStores   tearing a map, any store at a root place or a free data block, and storing a map by which the
 --                entries count the same keep a volume recoverable, with the same meaning
-use Rattle.std.specs.Prelude.{◌≡◌, ℕ, ◌*◌, ◌<◌, ◌≤◌, true, false, List, length, Some, None, Option, ◌≢◌, slice_set}
+use Rattle.std.specs.Prelude.{◌≡◌, ℕ, ◌*◌, ◌<◌, ◌≤◌, true, false, List, length, Some, Option, ◌≢◌, slice_set}
 use Rattle.device.specs.Blocks.{Block, block_at}
 use Rattle.map.specs.Addresses.{sector_of, root_place}
 use Rattle.map.specs.Maps.{decoded_map}

@@ -4,7 +4,7 @@
 use Rattle.std.specs.Prelude.{ℕ, ◌+◌, ◌-◌, ◌*◌, cond, List, slice_index_or}
 use Rattle.map.specs.Addresses.{cylinder_of, sector_of, root_place}
 use Rattle.map.specs.declared.entry.Entry.{Entry}
-use Rattle.map.specs.declared.entry.Entry.TheVariants.{Map, Free}
+use Rattle.map.specs.declared.entry.Entry.TheVariants.{Free}
 use Rattle.volume.specs.Counting.{Entries}
 
 abbrev pub root_slot : ℕ → ℕ

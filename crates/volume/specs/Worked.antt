@@ -6,15 +6,13 @@
 --   SaveWorked     what counts before and after the bit, settled, cleared, and with either map lost
 --   PremisesHold   the premises of the lost-map law, on this volume
 --   ShortcutsFail  three shortcuts that would mix two saves
-use Rattle.std.specs.Prelude.{◌≡◌, ℕ, ◌%◌, Bool, true, false, cond, List, [], ◌∷◌, replicate, Some, None, Option, ◌==◌}
-use Rattle.map.specs.declared.entry.DataState.{DataState}
+use Rattle.std.specs.Prelude.{◌≡◌, ℕ, ◌%◌, Bool, true, false, cond, List, ◌∷◌, replicate, Some, None, ◌==◌}
 use Rattle.map.specs.declared.entry.DataState.TheVariants as data_state
 use Rattle.map.specs.declared.entry.Entry.{Entry}
 use Rattle.map.specs.declared.entry.Entry.TheVariants.{Map, Free, Root, Data}
 use Rattle.map.specs.declared.entry.RootState.TheVariants as root_state
 use Rattle.map.specs.declared.identifier.Identifier.{Identifier}
 use Rattle.map.specs.declared.kind.Kind.TheVariants as kind
-use Rattle.object.specs.declared.root.RootBlock.{RootBlock}
 use Rattle.object.specs.declared.root.RootBlock.TheVariants.{Dead, Live}
 use Rattle.volume.specs.Committing.{with_bit}
 use Rattle.volume.specs.Counting.{Entries, claims, counted_at, due}

@@ -7,7 +7,7 @@
 --   resting          that volume, block by block, as the encoders write it
 --   second_marked    its second map with block 38 marked as intending to be allocated
 --   BlockPremises   the premises of the laws about blocks
-use Rattle.std.specs.Prelude.{◌≡◌, ℕ, ◌*◌, ◌<◌, ◌≤◌, true, false, cond, List, ◌∷◌, ◌++◌, length, set, replicate, Some, None, ◌==◌, ◌≢◌, slice_set}
+use Rattle.std.specs.Prelude.{◌≡◌, ℕ, ◌*◌, ◌<◌, ◌≤◌, true, false, cond, List, ◌∷◌, ◌++◌, length, replicate, Some, None, ◌==◌, ◌≢◌, slice_set}
 use Rattle.device.specs.Blocks.{Block}
 use Rattle.map.specs.Addresses.{sector_of, root_place}
 use Rattle.map.specs.Maps.{encoded_map, decoded_map}

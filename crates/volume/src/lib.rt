@@ -1,5 +1,6 @@
 // What a volume means: which blocks count, what objects it shows, and the laws that make a cut harmless.
 #![tactic(auto)]
+
 mod choose;
 mod claims;
 mod intend;

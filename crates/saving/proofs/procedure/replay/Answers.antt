@@ -1,6 +1,5 @@
-use Rattle.std.proofs.Common.{◌≡◌, ◌≤◌, true, length, sym, refl, ap, ◌∙◌, subst, arith}
+use Rattle.std.proofs.Common.{◌≡◌, true, length, sym, refl, ap, ◌∙◌, subst, arith}
 use Rattle.device.specs.PlanLaws.{runs_length, runs_whole, runs_cut, runs_ended}
-use Rattle.device.specs.Plans.{CutIn, wrote}
 use Rattle.saving.specs.Procedure.{save_plan, recovery_plan, CutShort}
 use Rattle.saving.proofs.Verdicts.{ended}
 use Rattle.saving.proofs.procedure.replay.Goals as goal

@@ -8,7 +8,7 @@ pub loop-entry-init : goal.loop-entry-init
 loop-entry-init c = searched_none (unsettled (table_entries c.args.roots.now)) c.args.entries.now refl
 
 pub loop-entry-preserved : goal.loop-entry-preserved
-loop-entry-preserved c = searched_more (unsettled (table_entries c.args.roots.now)) c.args.entries.now refl c.loop-entry.entry-index (omega (arith, c.told-entries)) c.loop-entry.invariant c.if-is-unsettled.ensures
+loop-entry-preserved c = searched_more (unsettled (table_entries c.args.roots.now)) c.args.entries.now refl c.loop-entry.entry-index (omega (arith, c.told-entries)) c.loop-entry.invariant c.if-is_unsettled.ensures
 
 pub returns : goal.returns
 returns c = searched_all (unsettled (table_entries c.args.roots.now)) c.args.entries.now refl c.loop-entry.entry-index (omega (arith, c.told-entries)) c.loop-entry.invariant

@@ -18,11 +18,11 @@ loop-s-preserved c =
     let next = drop (s + 1) entries in
     let within : s < length entries = omega (arith, c.told-entries) in
     let here : 32 * c.from.result + s ≡ start + s = ap (λ x. 32 * x + s) c.from.ensures in
-    let after : c.claim-entry-fresh.new.table ≡ claimed E (start + s) e table =
-    c.claim-entry-fresh.ensures.after ∙ ap (λ b. claimed E b e table) here in
+    let after : c.claim_entry-fresh.new.table ≡ claimed E (start + s) e table =
+    c.claim_entry-fresh.ensures.after ∙ ap (λ b. claimed E b e table) here in
     let rest = first_doubled E (start + (s + 1)) next (claimed E (start + s) e table) in
-    let found : c.first-of-first.result ≡ or_else first (cond (not (doubled E e table)) None (Some (start + s))) =
-    c.first-of-first.ensures ∙ ap₂ (λ t b. or_else first (cond t None (Some b))) c.claim-entry-fresh.ensures.value here in (
+    let found : c.first_of-first.result ≡ or_else first (cond (not (doubled E e table)) None (Some (start + s))) =
+    c.first_of-first.ensures ∙ ap₂ (λ t b. or_else first (cond t None (Some b))) c.claim_entry-fresh.ensures.value here in (
       ap (claimed_from E (start + (s + 1)) next) after ∙ sym (more_claimed E start s entries table within) ∙ c.loop-s.invariant.0,
       ap₂ or_else found (ap (first_doubled E (start + (s + 1)) next) after)
           ∙ first_of_all first (doubled E e table) (start + s) rest

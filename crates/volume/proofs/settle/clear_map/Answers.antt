@@ -13,7 +13,7 @@ loop-slot-preserved c =
     let within : i < length start = omega (arith, c.told-entries) in
     let long : length (map cleared (take i start) ++ drop i start) ≡ length start = simp (length-append, length-map, length-take, length-drop) (omega arith) in
     let here : i < length now = omega (arith, ap length c.loop-slot.invariant, long) in
-    ap (set now i) c.clear-entry.ensures
+    ap (set now i) c.clear_entry.ensures
     ∙ map_over_more cleared start now i (get_or now i Map) within c.loop-slot.invariant (get_or_default now i Map (get_or now i Map) here)
 
 pub returns : goal.returns

@@ -7,7 +7,7 @@ pub loop-entry-init : goal.loop-entry-init
 loop-entry-init c = searched_none bit c.args.entries.now refl
 
 pub loop-entry-preserved : goal.loop-entry-preserved
-loop-entry-preserved c = searched_more bit c.args.entries.now refl c.loop-entry.entry-index (omega (arith, c.told-entries)) c.loop-entry.invariant c.if-commit-bit.ensures
+loop-entry-preserved c = searched_more bit c.args.entries.now refl c.loop-entry.entry-index (omega (arith, c.told-entries)) c.loop-entry.invariant c.if-commit_bit.ensures
 
 pub returns : goal.returns
 returns c = searched_all bit c.args.entries.now refl c.loop-entry.entry-index (omega (arith, c.told-entries)) c.loop-entry.invariant

@@ -14,7 +14,7 @@ loop-slot-preserved c =
     let within : i < length start = omega (arith, c.told-entries) in
     let long : length (map (settled (table_entries c.args.roots.now)) (take i start) ++ drop i start) ≡ length start = simp (length-append, length-map, length-take, length-drop) (omega arith) in
     let here : i < length now = omega (arith, ap length c.loop-slot.invariant, long) in
-    ap (set now i) c.settle-entry.ensures
+    ap (set now i) c.settle_entry.ensures
     ∙ map_over_more (settled (table_entries c.args.roots.now)) start now i (get_or now i Map) within c.loop-slot.invariant (get_or_default now i Map (get_or now i Map) here)
 
 pub returns : goal.returns
