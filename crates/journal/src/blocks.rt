@@ -15,7 +15,7 @@ pub struct PowerCut;
 
 /// The bytes of block `b`, or none if it cannot be read.
 pub fn load<D: Device>(device: &D, b: usize) -> Result<Option<[u8; 512]>, PowerCut>
-    ensures { lit device.now ≡ true → result ≡ Ok (bytes_in (block_at (blocks device.now) b)) }
+    ensures { D.lit device.now ≡ true → result ≡ Ok (bytes_in (block_at (D.blocks device.now) b)) }
 {
     let mut bytes = [0; 512];
     match device.read(b, &mut bytes) {
@@ -28,7 +28,7 @@ pub fn load<D: Device>(device: &D, b: usize) -> Result<Option<[u8; 512]>, PowerC
 
 /// Stores the bytes at block `b`; a block that is not there is passed over.
 pub fn put<D: Device>(device: &mut D, b: usize, bytes: &[u8; 512]) -> Result<(), PowerCut>
-    ensures { Runs (blocks device.old) (lit device.old) (write b bytes.now ∷ []) result (blocks device.new) (lit device.new) }
+    ensures { Runs (D.blocks device.old) (D.lit device.old) (write b bytes.now ∷ []) result (D.blocks device.new) (D.lit device.new) }
 {
     match device.store(b, bytes) {
         Storing::Done => Ok(()),
@@ -44,7 +44,7 @@ pub fn load_map<D: Device>(
     cylinder: u8,
     cylinders: u8,
 ) -> Result<Option<[Entry; 32]>, PowerCut>
-    ensures { lit device.now ≡ true → result ≡ Ok (map_in cylinders cylinder (block_at (blocks device.now) (32 * cylinder))) }
+    ensures { D.lit device.now ≡ true → result ≡ Ok (map_in cylinders cylinder (block_at (D.blocks device.now) (32 * cylinder))) }
 {
     match load(device, 32 * usize::from(cylinder))? {
         Some(bytes) => Ok(decode_map(&bytes, cylinder, cylinders)),
@@ -59,7 +59,7 @@ pub fn load_root<D: Device>(
     r: u32,
     cylinders: u8,
 ) -> Result<Option<RootBlock>, PowerCut>
-    ensures { lit device.now ≡ true → result ≡ Ok (root_in cylinders r (block_at (blocks device.now) r)) }
+    ensures { D.lit device.now ≡ true → result ≡ Ok (root_in cylinders r (block_at (D.blocks device.now) r)) }
 {
     match load(device, r as usize)? {
         Some(bytes) => Ok(RootBlock::decode(&bytes, r, cylinders)),

@@ -26,7 +26,7 @@ fn note_roots(table: &mut [Entry; 256], cylinder: u8, entries: &[Entry; 32])
 
 /// The root entries of a volume, as a table; a map that cannot be used has none.
 pub fn root_entries<D: Device>(device: &D, cylinders: u8) -> Result<[Entry; 256], PowerCut>
-    ensures { Ready (blocks device.now) (lit device.now) cylinders → RootsRead (blocks device.now) result }
+    ensures { Ready (D.blocks device.now) (D.lit device.now) cylinders → RootsRead (D.blocks device.now) result }
 {
     let mut roots = [Entry::Free; 256];
     for cylinder in 0..cylinders {

@@ -2,7 +2,7 @@ use Rattle.std.proofs.Common.{◌≡◌, ◌+◌, ◌*◌, sym, ◌∙◌, subst
 use Rattle.device.specs.Blocks.{block_at}
 use Rattle.journal.proofs.RootTable.{Tabled, tabled_start, tabled_some, tabled_none, tabled_all}
 use Rattle.journal.proofs.finishing.root_entries.Goals as goal
-use Rattle.journal.proofs.finishing.root_entries.Goals.{in-Some, in-default}
+use Rattle.journal.proofs.finishing.root_entries.Goals.{in-Some, in_default}
 use Rattle.volume.specs.Volume.{map_in, entry_at}
 
 pub loop-cylinder-init : goal.loop-cylinder-init
@@ -14,13 +14,13 @@ loop-cylinder-preserved g c ready =
     let at = c.loop-cylinder.cylinder in
     let roots = c.loop-cylinder.roots in
     let P = Tabled (entry_at blocks) (at + 1) in
-    let read = c.in-ok-entries.ensures ready.on in
-    let map : map_in c.args.cylinders at (block_at blocks (32 * at)) ≡ c.in-ok-entries.field-0 = cc in
+    let read = c.in_ok-entries.ensures ready.on in
+    let map : map_in c.args.cylinders at (block_at blocks (32 * at)) ≡ c.in_ok-entries.field-0 = cc in
     elim c.match-branch-2.branch [
       | in-Some w ↦
-          subst P (sym (w.note-roots.ensures (omega (arith, ready.few))) ∙ sym w.roots-is)
+          subst P (sym (w.note_roots.ensures (omega (arith, ready.few))) ∙ sym w.roots-is)
           (tabled_some ready at roots w.in-Some.entries (omega arith) (c.loop-cylinder.invariant ready) (map ∙ w.in-Some.is))
-      | in-default w ↦ subst P (sym w.roots-is) (tabled_none ready at roots (c.loop-cylinder.invariant ready) (map ∙ w.in-default.is))
+      | in_default w ↦ subst P (sym w.roots-is) (tabled_none ready at roots (c.loop-cylinder.invariant ready) (map ∙ w.in_default.is))
     ]
 
 pub returns : goal.returns

@@ -21,11 +21,11 @@ loop-s-preserved c =
     let within : s < length start = omega (arith, c.told-entries) in
     let here : 32 * c.from.result + s ≡ a + s = ap (λ x. 32 * x + s) c.from.ensures in
     let same : get_or now s Map ≡ get_or start s Map = ap (λ es. get_or es s Map) c.loop-s.invariant.0 ∙ partly_next f a s start in (
-      ap (set now s) (c.mark-entry-entry.ensures.entry ∙ ap₂ f here same)
+      ap (set now s) (c.mark_entry-entry.ensures.entry ∙ ap₂ f here same)
           ∙ ap (λ es. set es s (f (a + s) (get_or start s Map))) c.loop-s.invariant.0
           ∙ partly_more f a s start
           ∙ ap (λ n. partly f a n start) (sym (add-one s)),
-      ap₂ ◌||◌ c.loop-s.invariant.1 (c.mark-entry-entry.ensures.intends ∙ ap₂ t here same) ∙ sym (any_more t a s start within),
+      ap₂ ◌||◌ c.loop-s.invariant.1 (c.mark_entry-entry.ensures.intends ∙ ap₂ t here same) ∙ sym (any_more t a s start within),
     )
 
 pub returns : goal.returns

@@ -10,19 +10,19 @@ pub loop-cylinder-init : goal.loop-cylinder-init
 unfolding planned
 loop-cylinder-init g c = (omega arith, λ ready. none_stored ready)
 
-pub returns-in-err-count : goal.returns-in-err-count
-returns-in-err-count g c =
+pub returns-in_err-count : goal.returns-in_err-count
+returns-in_err-count g c =
     let d = g.D.Device in
     let rule = g.R.MapRule.rule c.args.rule.now in
     let start = d.blocks c.args.device.now in
     let now = c.loop-cylinder.device in
-    let end = c.pass-cylinder.new.device in
-    let p = err_from_is_err_and c.from-residual.result c.from-residual.ensures.1 in
+    let end = c.pass_cylinder.new.device in
+    let p = err_from_is_err_and c.from_residual.result c.from_residual.ensures.1 in
     record {
       few = rw p.1 tt;
       stores = λ ready.
           let first = c.loop-cylinder.invariant.1 ready in
-          let went = c.in-err-count.ensures.stores (still_ready ready first) in
+          let went = c.in_err-count.ensures.stores (still_ready ready first) in
           rw (p.1, ready_cylinders ready)
           (pass_cut rule start c.loop-cylinder.cylinder c.loop-cylinder.count c.args.cylinders (d.blocks now) (d.blocks end) (d.lit now) (d.lit end) (omega arith) first went);
     }
@@ -33,11 +33,11 @@ loop-cylinder-preserved g c =
     let rule = g.R.MapRule.rule c.args.rule.now in
     let start = d.blocks c.args.device.now in
     let now = c.loop-cylinder.device in
-    let end = c.pass-cylinder.new.device in
-    let done = c.in-ok-count.ensures in (
+    let end = c.pass_cylinder.new.device in
+    let done = c.in_ok-count.ensures in (
       omega (arith, done.few, c.loop-cylinder.invariant.0),
       λ ready.
           let first = c.loop-cylinder.invariant.1 ready in
-          pass_more rule start c.loop-cylinder.cylinder c.loop-cylinder.count c.in-ok-count.field-0 (d.blocks now) (d.blocks end) (d.lit now) (d.lit end)
+          pass_more rule start c.loop-cylinder.cylinder c.loop-cylinder.count c.in_ok-count.field-0 (d.blocks now) (d.blocks end) (d.lit now) (d.lit end)
           first (done.stores (still_ready ready first)),
     )

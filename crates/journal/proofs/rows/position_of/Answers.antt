@@ -3,10 +3,10 @@ use Rattle.journal.specs.Rows.{is_new, row_of}
 use Rattle.volume.proofs.Searching.{lowest_first, lowest_none}
 use Rattle.journal.proofs.rows.position_of.Goals as goal
 
-pub returns-then-is-new : goal.returns-then-is-new
-returns-then-is-new c =
+pub returns-then-is_new : goal.returns-then-is_new
+returns-then-is_new c =
     let rows = c.args.rows.now in
-    sym (lowest_first (λ k. is_new c.args.a (row_of rows k)) (length rows) c.loop-p.p (omega arith) (sym c.is_new.ensures ∙ c.if-is-new.true) c.loop-p.invariant)
+    sym (lowest_first (λ k. is_new c.args.a (row_of rows k)) (length rows) c.loop-p.p (omega arith) (sym c.is_new.ensures ∙ c.if-is_new.true) c.loop-p.invariant)
 
 pub returns : goal.returns
 returns c =
