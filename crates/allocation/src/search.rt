@@ -12,7 +12,7 @@ use map::Entry;
 
 // The lowest address of a cylinder's map that will do.
 fn first_in_map<W: Wanted>(wanted: &W, cylinder: u8, entries: &[Entry; 32]) -> Option<u16>
-    ensures { result ≡ first_in (passes wanted.now) cylinder (Some entries.now) }
+    ensures { result ≡ first_in (W.passes wanted.now) cylinder (Some entries.now) }
 {
     for (s, entry) in entries.iter().enumerate() {
         let a = 32 * u16::from(cylinder) + s as u16;
@@ -30,7 +30,7 @@ fn first_in_cylinder<D: Device, W: Wanted>(
     cylinder: u8,
     cylinders: u8,
 ) -> Result<Option<u16>, PowerCut>
-    ensures { D.Device.lit device.now ≡ true → result ≡ Ok (first_in (W.Wanted.passes wanted.now) cylinder (map_in cylinders cylinder (block_at (D.Device.blocks device.now) (32 * cylinder)))) }
+    ensures { D.lit device.now ≡ true → result ≡ Ok (first_in (W.passes wanted.now) cylinder (map_in cylinders cylinder (block_at (D.blocks device.now) (32 * cylinder)))) }
 {
     match load_map(device, cylinder, cylinders)? {
         Some(entries) => Ok(first_in_map(wanted, cylinder, &entries)),
@@ -54,7 +54,7 @@ pub fn choose<D: Device, W: Wanted>(
     start: u32,
     cylinders: u8,
 ) -> Result<Option<u16>, PowerCut>
-    ensures { Tells D.Device device.now cylinders (chosen (W.Wanted.passes wanted.now) start) result }
+    ensures { Tells D.Device device.now cylinders (chosen (W.passes wanted.now) start) result }
 {
     for k in 0..cylinders {
         let found = first_in_cylinder(

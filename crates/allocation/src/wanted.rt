@@ -1,7 +1,7 @@
 // What is looked for: a free data block, or a free root place.
 ghost use Rattle.std.specs.Prelude.{◌≡◌, ℕ, Bool};
 ghost use Rattle.allocation.specs.Choosing.{is_free, free_block, free_root};
-ghost use Rattle.map.specs.declared.entry.Entry.{Entry as map-entry};
+ghost use Rattle.map.specs.declared.entry.Entry.{Entry as MapEntry};
 
 use journal::{Row, position_of};
 use map::Entry;
@@ -9,7 +9,7 @@ use map::Entry;
 /// A test of an address and its entry.
 pub trait Wanted {
     // The addresses and entries that pass.
-    ghost passes: { Self → ℕ → map-entry → Bool };
+    ghost passes: { Self → ℕ → MapEntry → Bool };
 
     /// Whether this address, with this entry, will do.
     fn fits(&self, a: u16, entry: Entry) -> bool

@@ -34,15 +34,15 @@ impl<D: Device> Skew<D> {
 }
 
 impl<D: Device> Device for Skew<D> {
-    ghost blocks = { λ s. skewed s.factor.k (D.Device.blocks s.device) };
+    ghost blocks = { λ s. skewed s.factor.k (D.blocks s.device) };
 
-    ghost lit = { λ s. D.Device.lit s.device };
+    ghost lit = { λ s. D.lit s.device };
 
-    ghost whole = { λ s. skewed_whole s.factor.k (D.Device.blocks s.device) (D.Device.whole s.device) };
+    ghost whole = { λ s. skewed_whole s.factor.k (D.blocks s.device) (D.whole s.device) };
 
-    ghost puts = { λ s b bytes r t. SkewStores s.factor.k (D.Device.blocks s.device) (D.Device.puts s.device) s.device b bytes r t.factor.k t.device };
+    ghost puts = { λ s b bytes r t. SkewStores s.factor.k (D.blocks s.device) (D.puts s.device) s.device b bytes r t.factor.k t.device };
 
-    ghost lights = { λ s t. D.Device.lights s.device t.device × (t.factor.k ≡ s.factor.k) };
+    ghost lights = { λ s t. D.lights s.device t.device × (t.factor.k ≡ s.factor.k) };
 
     fn size(&self) -> usize {
         32 * (self.device.size() / 32)

@@ -245,7 +245,7 @@ mod tests {
             match Factor::new(k) {
                 Ok(_) => return Err(Fail::new(k)),
                 Err(refusal) => {
-                    let text = format!(rt.alloc(), "{}: {refusal}", refusal.number())?;
+                    let text = format!(in rt.alloc(); "{}: {refusal}", refusal.number())?;
                     assert_eq!(rt;
                         text.as_str(),
                         "9: refused 9: a skew factor is an odd number from 1 to 31"

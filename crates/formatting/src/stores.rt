@@ -11,14 +11,14 @@ use map::{Identifier, encode_map};
 
 // Stores the root block of address `a`.
 fn put_root<D: Device>(device: &mut D, index: Identifier, a: u32) -> Result<(), PowerCut>
-    ensures { Runs (blocks device.old) (lit device.old) (root_write index a ∷ []) result (blocks device.new) (lit device.new) }
+    ensures { Runs (D.blocks device.old) (D.lit device.old) (root_write index a ∷ []) result (D.blocks device.new) (D.lit device.new) }
 {
     put(device, a as usize, &first_root(index, a).encode())
 }
 
 // Stores the map of a cylinder.
 fn put_map<D: Device>(device: &mut D, index: Identifier, cylinder: u8) -> Result<(), PowerCut>
-    ensures { Runs (blocks device.old) (lit device.old) (map_write index cylinder ∷ []) result (blocks device.new) (lit device.new) }
+    ensures { Runs (D.blocks device.old) (D.lit device.old) (map_write index cylinder ∷ []) result (D.blocks device.new) (D.lit device.new) }
 {
     let map = encode_map(&first_map(index, cylinder), cylinder);
     put(device, 32 * usize::from(cylinder), &map)
@@ -30,7 +30,7 @@ fn format_cylinder<D: Device>(
     index: Identifier,
     cylinder: u8,
 ) -> Result<(), PowerCut>
-    ensures { Runs (blocks device.old) (lit device.old) (format_writes index cylinder) result (blocks device.new) (lit device.new) }
+    ensures { Runs (D.blocks device.old) (D.lit device.old) (format_writes index cylinder) result (D.blocks device.new) (D.lit device.new) }
 {
     let first = 32 * u32::from(cylinder);
     put_root(device, index, first + 1)?;

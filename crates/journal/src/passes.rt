@@ -1,6 +1,6 @@
 // A pass over the cylinder maps.
 ghost use Rattle.std.specs.Prelude.{◌≡◌, ℕ, ◌≤◌, true, List, IfOk, Option};
-ghost use Rattle.map.specs.declared.entry.Entry.{Entry as map-entry};
+ghost use Rattle.map.specs.declared.entry.Entry.{Entry as MapEntry};
 ghost use Rattle.journal.specs.Carried.{Carries};
 ghost use Rattle.journal.specs.Passes.{pass_writes, pass_plan};
 
@@ -11,7 +11,7 @@ use map::{Entry, encode_map};
 /// A rule that changes the entries of some cylinder maps.
 pub trait MapRule {
     // What it makes of a cylinder's entries.
-    ghost rule: { Self → ℕ → List map-entry → Option (List map-entry) };
+    ghost rule: { Self → ℕ → List MapEntry → Option (List MapEntry) };
 
     /// The entries that a cylinder's map is to have, or none if it is to stay.
     fn changed(&self, cylinder: u8, entries: &[Entry; 32]) -> Option<[Entry; 32]>

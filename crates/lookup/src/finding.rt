@@ -3,7 +3,7 @@ ghost use Rattle.std.specs.Prelude.{◌≡◌};
 ghost use Rattle.journal.specs.Carried.{Tells};
 ghost use Rattle.journal.specs.Marking.{same_object};
 ghost use Rattle.lookup.specs.Finding.{found_root, found_by, found, no_blocks, held};
-ghost use Rattle.map.specs.declared.entry.Entry.{Entry as map-entry};
+ghost use Rattle.map.specs.declared.entry.Entry.{Entry as MapEntry};
 ghost use Rattle.volume.specs.Volume.{entry_at, root_at};
 
 use crate::objects::Object;

@@ -16,7 +16,7 @@ fn zero_block() -> [u8; 512]
 
 /// The bytes of the block at address `a`; zeros if `a` is 0 or the block cannot be read.
 pub fn position_bytes<D: Device>(device: &D, a: u16) -> Result<[u8; 512], PowerCut>
-    ensures { lit device.now ≡ true → result ≡ Ok (position_bytes (blocks device.now) a) }
+    ensures { D.lit device.now ≡ true → result ≡ Ok (position_bytes (D.blocks device.now) a) }
 {
     if a == 0 {
         return Ok(zero_block());
@@ -30,7 +30,7 @@ pub fn position_bytes<D: Device>(device: &D, a: u16) -> Result<[u8; 512], PowerC
 /// The words of a position whose block is at address `a`: zeros if `a` is 0, none if the block
 /// cannot be read.
 pub fn position_words<D: Device>(device: &D, a: u16) -> Result<Option<[u16; 256]>, PowerCut>
-    ensures { lit device.now ≡ true → result ≡ Ok (position_words (blocks device.now) a) }
+    ensures { D.lit device.now ≡ true → result ≡ Ok (position_words (D.blocks device.now) a) }
 {
     if a == 0 {
         return Ok(Some([0; 256]));
@@ -81,8 +81,8 @@ pub fn read_words<D: Device>(
     offset: usize,
     buffer: &mut [u16],
 ) -> Result<Option<u16>, PowerCut>
-    ensures value { lit device.now ≡ true → result ≡ Ok (unreadable_in (blocks device.now) addresses.now offset (length buffer.old)) }
-    ensures after { lit device.now ≡ true → offset + length buffer.old ≤ 16384 → buffer.new ≡ words_read (blocks device.now) addresses.now offset (length buffer.old) }
+    ensures value { D.lit device.now ≡ true → result ≡ Ok (unreadable_in (D.blocks device.now) addresses.now offset (length buffer.old)) }
+    ensures after { D.lit device.now ≡ true → offset + length buffer.old ≤ 16384 → buffer.new ≡ words_read (D.blocks device.now) addresses.now offset (length buffer.old) }
 {
     for (p, a) in addresses.iter().enumerate() {
         if !has_word(offset, buffer.len(), p) {

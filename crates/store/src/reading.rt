@@ -18,14 +18,14 @@ use map::Identifier;
 
 // How many cylinders a device has, at most 64.
 pub(crate) fn cylinders<D: Device>(device: &D) -> u8
-    ensures { result ≡ min (length (D.Device.blocks device.now) / 32) 64 }
+    ensures { result ≡ min (length (D.blocks device.now) / 32) 64 }
 {
     (device.size() / 32).min(64) as u8
 }
 
 // The object that a name names, if it names one that exists.
 pub(crate) fn find_named<D: Device>(device: &D, name: Name) -> Result<Option<Object>, PowerCut>
-    ensures { Tells D.Device device.now (cylinders_of (D.Device.blocks device.now)) (λ all. found_if all (identified name.tag name.root)) result }
+    ensures { Tells D.Device device.now (cylinders_of (D.blocks device.now)) (λ all. found_if all (identified name.tag name.root)) result }
 {
     match name.identifier() {
         Some(id) => find(device, id, cylinders(device)),

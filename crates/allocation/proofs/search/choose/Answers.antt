@@ -9,26 +9,26 @@ use Rattle.allocation.proofs.search.choose.Goals as goal
 pub loop-k-init : goal.loop-k-init
 loop-k-init g c ready = first_none (found_at (g.W.Wanted.passes c.args.wanted.now) c.args.start (g.D.Device.blocks c.args.device.now))
 
-pub returns-then-is-some : goal.returns-then-is-some
-returns-then-is-some g c ready =
+pub returns-then-is_some : goal.returns-then-is_some
+returns-then-is_some g c ready =
     let d = g.D.Device in
     let device = c.args.device.now in
     let fits = g.W.Wanted.passes c.args.wanted.now in
-    let found = c.in-ok-found.found in
-    let is = same_found fits (d.blocks device) (d.lit device) c.args.cylinders c.args.start c.loop-k.k c.next-cylinder.result found
-    ready c.next-cylinder.ensures (c.in-ok-found.ensures ready.on) in
+    let found = c.in_ok-found.found in
+    let is = same_found fits (d.blocks device) (d.lit device) c.args.cylinders c.args.start c.loop-k.k c.next_cylinder.result found
+    ready c.next_cylinder.ensures (c.in_ok-found.ensures ready.on) in
     ap Ok (sym (first_answer (found_at fits c.args.start (d.blocks device)) (cylinders_of (d.blocks device)) c.loop-k.k found
-    (omega (arith, ready_cylinders ready)) (c.loop-k.invariant ready) (sym is) (sym c.if-is-some.ensures)))
+    (omega (arith, ready_cylinders ready)) (c.loop-k.invariant ready) (sym is) (sym c.if-is_some.ensures)))
 
 pub loop-k-preserved : goal.loop-k-preserved
 loop-k-preserved g c ready =
     let d = g.D.Device in
     let device = c.args.device.now in
     let fits = g.W.Wanted.passes c.args.wanted.now in
-    let found = c.in-ok-found.found in
-    let is = same_found fits (d.blocks device) (d.lit device) c.args.cylinders c.args.start c.loop-k.k c.next-cylinder.result found
-    ready c.next-cylinder.ensures (c.in-ok-found.ensures ready.on) in
-    first_more (found_at fits c.args.start (d.blocks device)) c.loop-k.k (c.loop-k.invariant ready) (sym is ∙ no_answer found (sym c.if-is-some.ensures))
+    let found = c.in_ok-found.found in
+    let is = same_found fits (d.blocks device) (d.lit device) c.args.cylinders c.args.start c.loop-k.k c.next_cylinder.result found
+    ready c.next_cylinder.ensures (c.in_ok-found.ensures ready.on) in
+    first_more (found_at fits c.args.start (d.blocks device)) c.loop-k.k (c.loop-k.invariant ready) (sym is ∙ no_answer found (sym c.if-is_some.ensures))
 
 pub returns : goal.returns
 returns g c ready =

@@ -12,9 +12,9 @@ returns-in-None g c =
     let p = c.loop-p.p in
     let is : d.lit c.args.device.now ≡ true → unreadable_in blocks addresses c.args.offset n ≡ Some (get_or addresses p 0) =
     λ on.
-    let read = c.in-ok-words.ensures on in
+    let read = c.in_ok-words.ensures on in
     let none : position_words blocks (get_or addresses p 0) ≡ None = cc (read, c.in-None.is) in
-    let has = asked blocks addresses c.args.offset n p c.loop-p.buffer true c.loop-p.auto.buffer c.if-not-has-word.ensures in
+    let has = asked blocks addresses c.args.offset n p c.loop-p.buffer true c.loop-p.auto.buffer c.if-not-has_word.ensures in
     stopped blocks addresses c.args.offset n p c.loop-p-test.true has none (c.loop-p.invariant on).1 in
     record {
       value = λ on. ap Ok (sym (is on));
@@ -30,11 +30,11 @@ loop-p-preserved g c on =
     let n = length c.args.buffer.now in
     let p = c.loop-p.p in
     let words = c.in-Some.words in
-    let read = c.in-ok-words.ensures on in
+    let read = c.in_ok-words.ensures on in
     let is : position_words blocks (get_or addresses p 0) ≡ Some words = cc (read, c.in-Some.is) in
     let far = c.loop-p.invariant on in
-    put_on blocks addresses c.args.offset n p words c.put-position.new.buffer is
-    (c.put-position.ensures (word_shown blocks addresses) (words_are blocks addresses c.args.offset n p words is) far.0) far.1
+    put_on blocks addresses c.args.offset n p words c.put_position.new.buffer is
+    (c.put_position.ensures (word_shown blocks addresses) (words_are blocks addresses c.args.offset n p words is) far.0) far.1
 
 pub returns : goal.returns
 returns g c =
@@ -52,11 +52,11 @@ returns g c =
           ∙ sym (ap (λ o. words_unless o blocks addresses offset n) (none on));
     }
 
-pub loop-p-preserved-then-not-has-word : goal.loop-p-preserved-then-not-has-word
-loop-p-preserved-then-not-has-word g c on =
+pub loop-p-preserved-then-not-has_word : goal.loop-p-preserved-then-not-has_word
+loop-p-preserved-then-not-has_word g c on =
     let blocks = g.D.Device.blocks c.args.device.now in
     let addresses = c.args.addresses.now in
     let n = length c.args.buffer.now in
     let p = c.loop-p.p in
-    let none = asked blocks addresses c.args.offset n p c.loop-p.buffer false c.loop-p.auto.buffer c.if-not-has-word.ensures in
+    let none = asked blocks addresses c.args.offset n p c.loop-p.buffer false c.loop-p.auto.buffer c.if-not-has_word.ensures in
     passed blocks addresses c.args.offset n p c.loop-p.buffer c.loop-p.auto.buffer none (c.loop-p.invariant on)
