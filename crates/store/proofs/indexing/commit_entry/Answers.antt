@@ -14,6 +14,6 @@ returns g c ready =
     let start = d.blocks c.args.device.now in
     let rows = entry_rows c.args.e c.args.b in
     let end = c.commit.new.device in
-    let addresses : c.new_addresses.result ≡ new_addresses rows object.blocks = c.new_addresses.ensures ∙ ap (λ rs. new_addresses rs object.blocks) c.entry-rows-table.ensures in
-    subst (λ rs. Carried start (commit_plan (root_after object rows) rs start) c.commit.result (d.blocks end) (d.lit end)) c.entry-rows-table.ensures
-    (subst (λ xs. Carried start (commit_plan (record { id = object.id; kind = object.kind; blocks = xs }) c.entry-rows-table.result.rows start) c.commit.result (d.blocks end) (d.lit end)) addresses (c.commit.ensures ready))
+    let addresses : c.new_addresses.result ≡ new_addresses rows object.blocks = c.new_addresses.ensures ∙ ap (λ rs. new_addresses rs object.blocks) c.entry_rows-table.ensures in
+    subst (λ rs. Carried start (commit_plan (root_after object rows) rs start) c.commit.result (d.blocks end) (d.lit end)) c.entry_rows-table.ensures
+    (subst (λ xs. Carried start (commit_plan (record { id = object.id; kind = object.kind; blocks = xs }) c.entry_rows-table.result.rows start) c.commit.result (d.blocks end) (d.lit end)) addresses (c.commit.ensures ready))

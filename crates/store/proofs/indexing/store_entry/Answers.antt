@@ -8,25 +8,25 @@ use Rattle.store.specs.Indexing.{entry_rows}
 use Rattle.store.specs.Transactions.{root_after}
 use Rattle.store.proofs.indexing.store_entry.Goals as goal
 
-pub returns-in-err-commit-entry : goal.returns-in-err-commit-entry
-returns-in-err-commit-entry g c ready =
+pub returns-in_err-commit_entry : goal.returns-in_err-commit_entry
+returns-in_err-commit_entry g c ready =
     let rows = entry_rows c.args.e c.args.b in
     let commits = commit_plan (root_after c.args.object.now rows) rows in
-    let mid = g.D.Device.blocks c.store-entry-block.new.device in
-    let first = c.in-ok-store-entry-block.ensures.stores ready in
-    let went = c.in-err-commit-entry.ensures (still_ready ready first) in
-    let p = err_from_is_err_and c.from-residual-in-err-commit-entry.result c.from-residual-in-err-commit-entry.ensures.1 in
+    let mid = g.D.Device.blocks c.store_entry_block.new.device in
+    let first = c.in_ok-store_entry_block.ensures.stores ready in
+    let went = c.in_err-commit_entry.ensures (still_ready ready first) in
+    let p = err_from_is_err_and c.from_residual-in_err-commit_entry.result c.from_residual-in_err-commit_entry.ensures.1 in
     let all = cut_next (followed commits finish_plan) first (cut_longer (commits mid) (finish_plan (wrote mid (commits mid))) went) in
     rw p.1 (all.cut, all.off)
 
-pub returns-in-err-finish : goal.returns-in-err-finish
-returns-in-err-finish g c ready =
+pub returns-in_err-finish : goal.returns-in_err-finish
+returns-in_err-finish g c ready =
     let rows = entry_rows c.args.e c.args.b in
     let commits = commit_plan (root_after c.args.object.now rows) rows in
-    let first = c.in-ok-store-entry-block.ensures.stores ready in
-    let second = c.in-ok-commit-entry.ensures (still_ready ready first) in
-    let went = c.in-err-finish.ensures (still_ready (still_ready ready first) second) in
-    let p = err_from_is_err_and c.from-residual-in-err-finish.result c.from-residual-in-err-finish.ensures.1 in
+    let first = c.in_ok-store_entry_block.ensures.stores ready in
+    let second = c.in_ok-commit_entry.ensures (still_ready ready first) in
+    let went = c.in_err-finish.ensures (still_ready (still_ready ready first) second) in
+    let p = err_from_is_err_and c.from_residual-in_err-finish.result c.from_residual-in_err-finish.ensures.1 in
     let all = cut_next (followed commits finish_plan) first (cut_next finish_plan second went) in
     rw p.1 (all.cut, all.off)
 
@@ -34,8 +34,8 @@ pub returns : goal.returns
 returns g c ready =
     let rows = entry_rows c.args.e c.args.b in
     let commits = commit_plan (root_after c.args.object.now rows) rows in
-    let first = c.in-ok-store-entry-block.ensures.stores ready in
-    let second = c.in-ok-commit-entry.ensures (still_ready ready first) in
-    let third = c.in-ok-finish.ensures (still_ready (still_ready ready first) second) in
+    let first = c.in_ok-store_entry_block.ensures.stores ready in
+    let second = c.in_ok-commit_entry.ensures (still_ready ready first) in
+    let third = c.in_ok-finish.ensures (still_ready (still_ready ready first) second) in
     let all = whole_next (followed commits finish_plan) first (whole_next finish_plan second third) in
     (all.after, λ on. all.on)

@@ -18,23 +18,23 @@ returns g c steady =
     let m = see c.args.self.now in
     let e = c.args.e in
     let tag = c.args.tag in
-    let object = c.in-ok-object.object in
-    let id = c.in-ok-id.id in
+    let object = c.in_ok-object.object in
+    let id = c.in_ok-id.id in
     let kind = c.in-Some.kind in
-    let admit = c.in-ok-admit.ensures in
+    let admit = c.in_ok-admit.ensures in
     let ready = ready_when m asked.Idle steady admit in
     let r = c.add.result in
     let end = see c.add.new.self in
     let index = looked (λ all. indexed all c.args.index) m m (see c.index.new.self) c.index.result ready refl c.index.ensures in
     let place = looked (λ all. ok_or (new_identifier tag (chosen free_root (cylinder_of object.id.root) all)) refusal.Full) m (see c.index.new.self) (see c.new_identifier.new.self) c.new_identifier.result ready index.1 c.new_identifier.ensures in
     let free = looked (λ all. free_for all object e) m (see c.new_identifier.new.self) (see c.free_for.new.self) c.free_for.result ready place.1 c.free_for.ensures in
-    let goes = stored (followed (create_plan (created id kind)) (entry_plan object e (Some id) c.in-ok-b.b)) id m (see c.free_for.new.self) end r ready free.1 c.add.ensures in
+    let goes = stored (followed (create_plan (created id kind)) (entry_plan object e (Some id) c.in_ok-b.b)) id m (see c.free_for.new.self) end r ready free.1 c.add.ensures in
     let within : not (ltb e 4096) ≡ false = ap not (lt-ltb e 4096 c.if-e-ge4096.false) in
-    let known : Some kind ≡ kind_of c.args.kind = sym c.in-Some.is ∙ c.kind-named.ensures in
+    let known : Some kind ≡ kind_of c.args.kind = sym c.in-Some.is ∙ c.kind_named.ensures in
     decided m r end _ admit
-    (decided m r end _ (sym c.in-ok-object.was ∙ index.0)
+    (decided m r end _ (sym c.in_ok-object.was ∙ index.0)
     (tested m r end refusal.Range _ within
     (decided m r end _ (ap (λ o. ok_or o refusal.Range) known)
     (tested m r end refusal.TagZero _ (ne_eqb tag 0 c.if-tag-eq0.false)
-    (decided m r end _ (sym c.in-ok-id.was ∙ place.0)
-    (decided m r end _ (sym c.in-ok-b.was ∙ free.0) goes))))))
+    (decided m r end _ (sym c.in_ok-id.was ∙ place.0)
+    (decided m r end _ (sym c.in_ok-b.was ∙ free.0) goes))))))

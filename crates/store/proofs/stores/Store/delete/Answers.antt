@@ -15,21 +15,21 @@ returns g c steady =
     let see = seen g.D.Device in
     let m = see c.args.self.now in
     let e = c.args.e in
-    let object = c.in-ok-object.object in
-    let held = c.in-ok-held.held in
-    let admit = c.in-ok-admit.ensures in
+    let object = c.in_ok-object.object in
+    let held = c.in_ok-held.held in
+    let admit = c.in_ok-admit.ensures in
     let ready = ready_when m asked.Idle steady admit in
-    let r = c.set-entry.result in
-    let end = see c.set-entry.new.self in
+    let r = c.set_entry.result in
+    let end = see c.set_entry.new.self in
     let index = looked (λ all. indexed all c.args.index) m m (see c.index.new.self) c.index.result ready refl c.index.ensures in
     let entry = looked (λ all. Ok (entry_held all object e)) m (see c.index.new.self) (see c.entry.new.self) c.entry.result ready index.1 c.entry.ensures in
     let free = looked (λ all. free_for all object e) m (see c.entry.new.self) (see c.free_for.new.self) c.free_for.result ready entry.1 c.free_for.ensures in
-    let goes = stored (entry_plan object e None c.in-ok-b.b) tt m (see c.free_for.new.self) end r ready free.1 c.set-entry.ensures in
+    let goes = stored (entry_plan object e None c.in_ok-b.b) tt m (see c.free_for.new.self) end r ready free.1 c.set_entry.ensures in
     let within : not (ltb e 4096) ≡ false = ap not (lt-ltb e 4096 c.if-e-ge4096.false) in
-    let same : held ≡ entry_held m.blocks object e = ok_same held (entry_held m.blocks object e) (sym c.in-ok-held.was ∙ entry.0) in
-    let some : is_some held ≡ true = c.is-none.ensures ∙ ap not c.if-is-none.false in
+    let same : held ≡ entry_held m.blocks object e = ok_same held (entry_held m.blocks object e) (sym c.in_ok-held.was ∙ entry.0) in
+    let some : is_some held ≡ true = c.is_none.ensures ∙ ap not c.if-is_none.false in
     decided m r end _ admit
-    (decided m r end _ (sym c.in-ok-object.was ∙ index.0)
+    (decided m r end _ (sym c.in_ok-object.was ∙ index.0)
     (tested m r end refusal.Range _ within
     (subst (λ o. Follows (delete_held object e m o) m r end) same
-    (delete_some object e m r end held some (decided m r end _ (sym c.in-ok-b.was ∙ free.0) goes)))))
+    (delete_some object e m r end held some (decided m r end _ (sym c.in_ok-b.was ∙ free.0) goes)))))

@@ -11,9 +11,9 @@ loop-call-init g c steady = played_none (seen g.D.Device c.args.self.now) (vec_i
 pub loop-call-preserved : goal.loop-call-preserved
 loop-call-preserved g c steady =
     let see = seen g.D.Device in
-    played_more (see c.args.self.now) (see c.loop-call.self) (see c.step.new.self) c.args.calls.now c.loop-call.call-index c.call-item.result c.in-ok-answer.answer
+    played_more (see c.args.self.now) (see c.loop-call.self) (see c.step.new.self) c.args.calls.now c.loop-call.call-index c.call-item.result c.in_ok-answer.answer
     (vec_items c.args.log.now) (vec_items c.loop-call.log) (vec_items c.push.new.self) (omega arith) c.call-item.is (c.loop-call.invariant steady)
-    c.in-ok-answer.ensures c.in-ok-push.ensures.items
+    c.in_ok-answer.ensures c.in_ok-push.ensures.items
 
 pub returns : goal.returns
 returns g c steady =

@@ -14,19 +14,19 @@ returns g c steady =
     let see = seen g.D.Device in
     let m = see c.args.self.now in
     let e = c.args.e in
-    let object = c.in-ok-object.object in
-    let kept = c.in-ok-kept.kept in
-    let admit = c.in-ok-admit.ensures in
+    let object = c.in_ok-object.object in
+    let kept = c.in_ok-kept.kept in
+    let admit = c.in_ok-admit.ensures in
     let ready = ready_when m asked.Idle steady admit in
-    let r = c.set-entry.result in
-    let end = see c.set-entry.new.self in
+    let r = c.set_entry.result in
+    let end = see c.set_entry.new.self in
     let index = looked (λ all. indexed all c.args.index) m m (see c.index.new.self) c.index.result ready refl c.index.ensures in
     let name = looked (λ all. named all c.args.name) m (see c.index.new.self) (see c.object.new.self) c.object.result ready index.1 c.object.ensures in
     let free = looked (λ all. free_for all object e) m (see c.object.new.self) (see c.free_for.new.self) c.free_for.result ready name.1 c.free_for.ensures in
-    let goes = stored (entry_plan object e (Some kept.id) c.in-ok-b.b) tt m (see c.free_for.new.self) end r ready free.1 c.set-entry.ensures in
+    let goes = stored (entry_plan object e (Some kept.id) c.in_ok-b.b) tt m (see c.free_for.new.self) end r ready free.1 c.set_entry.ensures in
     let within : not (ltb e 4096) ≡ false = ap not (lt-ltb e 4096 c.if-e-ge4096.false) in
     decided m r end _ admit
-    (decided m r end _ (sym c.in-ok-object.was ∙ index.0)
+    (decided m r end _ (sym c.in_ok-object.was ∙ index.0)
     (tested m r end refusal.Range _ within
-    (decided m r end _ (sym c.in-ok-kept.was ∙ name.0)
-    (decided m r end _ (sym c.in-ok-b.was ∙ free.0) goes))))
+    (decided m r end _ (sym c.in_ok-kept.was ∙ name.0)
+    (decided m r end _ (sym c.in_ok-b.was ∙ free.0) goes))))

@@ -5,6 +5,6 @@ use Rattle.store.specs.Runs.{id_of}
 use Rattle.store.specs.Transactions.{commit_rule}
 use Rattle.store.proofs.stores.Store.step_commit.Goals as goal
 
-pub returns-in-default : goal.returns-in-default
-returns-in-default g c steady =
-    no_open (id_of c.args.ticket) _ (seen g.D.Device c.args.self.now) c.unnamed.result (sym c.identifier.ensures ∙ c.in-default.is) c.unnamed.ensures commit_rule
+pub returns-in_default : goal.returns-in_default
+returns-in_default g c steady =
+    no_open (id_of c.args.ticket) _ (seen g.D.Device c.args.self.now) c.unnamed.result (sym c.identifier.ensures ∙ c.in_default.is) c.unnamed.ensures commit_rule

@@ -13,11 +13,11 @@ returns-in-Ok g c steady =
     let m = seen g.D.Device c.args.self.now in
     let name = c.args.object in
     let offset = c.args.offset in
-    let long : length c.as-mut-slice.result.now ≡ capped c.args.length = c.as-mut-slice.ensures.len ∙ c.in-ok-words.ensures.len ∙ c.min-n.ensures in
+    let long : length c.as_mut_slice.result.now ≡ capped c.args.length = c.as_mut_slice.ensures.len ∙ c.in_ok-words.ensures.len ∙ c.min-n.ensures in
     let read = c.in-Ok.ensures in
-    let words = c.in-ok-words.words in
+    let words = c.in_ok-words.words in
     let buffer = c.read.new.buffer in
-    let kept : length buffer ≡ words.len = c.read.auto.buffer ∙ c.as-mut-slice.ensures.len in
+    let kept : length buffer ≡ words.len = c.read.auto.buffer ∙ c.as_mut_slice.ensures.len in
     record {
       result = Ok tt;
       follows = subst (λ n. Follows (read_rule name offset n m) m (Ok tt) (seen g.D.Device c.read.new.self)) long (read.rule steady);
@@ -28,7 +28,7 @@ pub returns-in-Err : goal.returns-in-Err
 returns-in-Err g c steady =
     let m = seen g.D.Device c.args.self.now in
     let why = c.in-Err.why in
-    let long : length c.as-mut-slice.result.now ≡ capped c.args.length = c.as-mut-slice.ensures.len ∙ c.in-ok-words.ensures.len ∙ c.min-n.ensures in
+    let long : length c.as_mut_slice.result.now ≡ capped c.args.length = c.as_mut_slice.ensures.len ∙ c.in_ok-words.ensures.len ∙ c.min-n.ensures in
     record {
       result = Err why;
       follows = subst (λ n. Follows (read_rule c.args.object c.args.offset n m) m (Err why) (seen g.D.Device c.read.new.self)) long (c.in-Err.ensures.rule steady);
