@@ -1,5 +1,6 @@
 // Choosing a free block or a free root place: one order of cylinders for both.
 #![tactic(auto)]
+
 mod laws;
 mod search;
 mod wanted;

@@ -1,6 +1,7 @@
 // The plug-pull bench: replays the save procedure in use today on the trial drive, and chooses the
 // store that each cut hits.
 #![tactic(auto)]
+
 mod tally;
 
 use device::{Cut, Manner, Trial};

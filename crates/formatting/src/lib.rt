@@ -1,5 +1,6 @@
 // Formatting: the stores by which a device becomes an empty volume.
 #![tactic(auto)]
+
 mod contents;
 mod laws;
 mod stores;

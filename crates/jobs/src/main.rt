@@ -1,5 +1,6 @@
 // Runs a script of calls on a trial drive, and prints a line for each call.
 #![tactic(auto)]
+
 mod parse;
 mod print;
 mod session;

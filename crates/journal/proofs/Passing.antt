@@ -1,9 +1,9 @@
 -- What a pass over the maps stores, cylinder by cylinder.
-use Rattle.std.proofs.Common.{◌≡◌, ℕ, zero, suc, ◌+◌, ◌*◌, ◌/◌, ◌<◌, ◌≤◌, Bool, ◌≢◌, List, [], ◌∷◌, ◌++◌, length, set, Some, None, Option, sym, refl, ap, ◌∙◌, subst, ap₂, add-one, arith}
+use Rattle.std.proofs.Common.{◌≡◌, ℕ, zero, suc, ◌+◌, ◌*◌, ◌/◌, ◌<◌, ◌≤◌, Bool, ◌≢◌, List, [], length, Some, None, Option, refl, ap, ◌∙◌, subst, ap₂, add-one, arith}
 use Rattle.std.proofs.lemmas.List.{get_or-set_other, get_or_past}
 use Rattle.device.specs.Blocks.{Block, block_at}
 use Rattle.device.specs.PlanLaws.{wrote_append, wrote_length}
-use Rattle.device.specs.Plans.{Write, wrote}
+use Rattle.device.specs.Plans.{wrote}
 use Rattle.map.specs.Maps.{encoded_map}
 use Rattle.map.specs.declared.entry.Entry.{Entry}
 use Rattle.journal.specs.Carried.{Ready, Whole, Went, planned}

@@ -6,7 +6,7 @@
 --   commit_plan  the maps with intentions, ascending; then the root block and the map with the commit bit, if
 --                there is an intention at all
 --   create_plan  the root block of a new object, and the map with its root entry
-use Rattle.std.specs.Prelude.{ℕ, Bool, true, false, cond, List, [], ◌∷◌, ◌++◌, replicate, Some, None, Option, ◌==◌, slice_index_or, slice_set}
+use Rattle.std.specs.Prelude.{ℕ, false, cond, List, [], ◌∷◌, ◌++◌, Some, None, ◌==◌, slice_index_or, slice_set}
 use Rattle.device.specs.Blocks.{Block}
 use Rattle.device.specs.Plans.{Write, write, wrote}
 use Rattle.map.specs.Addresses.{cylinder_of, sector_of}

@@ -5,7 +5,7 @@
 --   cleared_row  a row that is cleared
 --   new_address, new_addresses   the address that a position is to have, and those of all positions
 --   position_of  the lowest position whose row holds this new block
-use Rattle.std.specs.Prelude.{ℕ, Bool, true, false, cond, List, map, length, Option, ◌==◌, slice_index, slice_index_or}
+use Rattle.std.specs.Prelude.{ℕ, Bool, true, false, List, map, length, Option, ◌==◌, slice_index, slice_index_or}
 use Rattle.std.specs.List.{range_with_len}
 use Rattle.journal.specs.declared.row.Row.{Row}
 use Rattle.journal.specs.declared.row.Row.TheVariants.{Untouched, New, Cleared}

@@ -2,7 +2,7 @@
 --   each_at    the entries changed by a function of address and entry, the first standing at address a
 --   any_at     one of them passes a test of address and entry
 --   pointwise  the rule that changes each entry of the maps in which one passes the test
-use Rattle.std.specs.Prelude.{ℕ, ◌+◌, ◌*◌, Bool, false, cond, ◌||◌, List, [], ◌∷◌, Some, None, Option}
+use Rattle.std.specs.Prelude.{ℕ, ◌+◌, ◌*◌, Bool, false, cond, ◌||◌, List, [], ◌∷◌, Some, None}
 use Rattle.map.specs.declared.entry.Entry.{Entry}
 use Rattle.journal.specs.Passes.{Rule}
 

@@ -1,6 +1,7 @@
 // Carrying out a transaction's stores on a device: passes over the maps, intentions, the root block, the commit
 // bit, and the tail that settles and clears.
 #![tactic(auto)]
+
 mod blocks;
 mod committing;
 mod finishing;

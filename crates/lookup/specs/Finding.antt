@@ -5,7 +5,7 @@
 --   found       the object of an identifier in a volume
 --   blank       what is read where there is no object: no block at any position
 --   held        the object of an identifier, or a blank one
-use Rattle.std.specs.Prelude.{ℕ, Bool, true, false, cond, ◌&&◌, List, replicate, Some, None, Option, ◌==◌}
+use Rattle.std.specs.Prelude.{ℕ, cond, List, replicate, Some, None, Option, ◌==◌}
 use Rattle.device.specs.Blocks.{Block}
 use Rattle.map.specs.declared.entry.Entry.{Entry}
 use Rattle.map.specs.declared.entry.Entry.TheVariants.{Map, Free, Root, Data}
@@ -13,7 +13,6 @@ use Rattle.map.specs.declared.entry.RootState.TheVariants as root_state
 use Rattle.map.specs.declared.identifier.Identifier.{Identifier}
 use Rattle.map.specs.declared.kind.Kind.{Kind}
 use Rattle.map.specs.declared.kind.Kind.TheVariants as kinds
-use Rattle.object.specs.declared.root.Root.{Root as RootOf}
 use Rattle.object.specs.declared.root.RootBlock.{RootBlock}
 use Rattle.object.specs.declared.root.RootBlock.TheVariants.{Dead, Live}
 use Rattle.journal.specs.Marking.{same_object}

@@ -1,5 +1,6 @@
 // Finding objects, reading what they hold, and the blocks that a staged write makes.
 #![tactic(auto)]
+
 mod finding;
 mod objects;
 mod stage;

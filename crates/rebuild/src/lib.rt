@@ -1,5 +1,6 @@
 // The lost map of one cylinder, rebuilt from root blocks and the other maps.
 #![tactic(auto)]
+
 mod laws;
 mod note;
 mod take;

@@ -1,6 +1,7 @@
 // The laws of whole calls: what their lists of stores do to the objects that a restart would show, with
 // power failing anywhere.
 #![tactic(auto)]
+
 mod laws;
 mod worked;
 

@@ -1,5 +1,5 @@
 -- A read that finds no object leaves its buffer.
-use Rattle.std.proofs.Common.{◌≡◌, ℕ, List, Some, None, Ok, Err, Option, Result, sym, ap, arith}
+use Rattle.std.proofs.Common.{◌≡◌, ℕ, List, Some, None, Err, Option, Result, sym, ap, arith}
 use Rattle.std.specs.Option.{ok_or}
 use Rattle.store.specs.Reading.{buffer_refused}
 use Rattle.store.specs.declared.refusals.Refusal.{Refusal}

@@ -1,5 +1,5 @@
 -- How a call comes to follow its rule: admitted, looking at its device step by step, and storing in the end.
-use Rattle.std.proofs.Common.{◌≡◌, ℕ, ◌<◌, Bool, true, false, List, Ok, Err, Result, sym, refl, ap, ◌∙◌, subst, arith}
+use Rattle.std.proofs.Common.{◌≡◌, ℕ, Bool, false, List, Ok, Err, Result, sym, refl, ap, ◌∙◌, subst, arith}
 use Rattle.device.specs.Blocks.{Block}
 use Rattle.device.specs.Plans.{Write}
 use Rattle.journal.specs.Carried.{Ready}

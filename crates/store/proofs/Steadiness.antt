@@ -1,21 +1,16 @@
 -- Every call leaves a steady store steady.
-use Rattle.std.proofs.Common.{◌≡◌, ℕ, ◌*◌, ◌/◌, ◌%◌, ◌≤◌, Bool, true, false, not, ◌&&◌, eqb, leb, List, length, Some, None, Ok, Err, Option, Result, sym, refl, ap, ◌∙◌, subst, arith}
+use Rattle.std.proofs.Common.{◌≡◌, ℕ, ◌*◌, ◌/◌, ◌%◌, ◌≤◌, Bool, true, false, not, ◌&&◌, eqb, leb, length, Some, None, Ok, Err, Option, Result, sym, refl, ap, ◌∙◌, subst, arith}
 use Rattle.std.proofs.lemmas.Bool.{and_parts, eqb-true, leb-true}
-use Rattle.device.specs.Blocks.{Block}
 use Rattle.device.specs.PlanLaws.{wrote_length}
-use Rattle.device.specs.Plans.{Write}
 use Rattle.formatting.specs.Formatting.{index_of, format_plan}
-use Rattle.journal.specs.Carried.{Ready}
-use Rattle.journal.specs.declared.row.Row.{Row}
 use Rattle.map.specs.declared.identifier.Identifier.{Identifier}
 use Rattle.store.proofs.Following.{ReadyFor, ready_when}
 use Rattle.store.specs.Admission.{admitted}
-use Rattle.store.specs.Decisions.{Decision, Fallen, WentOn, Goes, Follows, decide, unless}
+use Rattle.store.specs.Decisions.{Decision, Follows, decide, unless}
 use Rattle.store.specs.Formatting.{sized, lit_up, format_rule}
 use Rattle.store.specs.Model.{Model, Steady, SteadyIn}
-use Rattle.store.specs.Runs.{unnamed, on_open, on_waiting, id_of, Answers, Shows, Step}
-use Rattle.store.specs.Staging.{stage_rule}
-use Rattle.store.specs.Transactions.{no_rows, begin_rule, abandon_rule, clear_rule, commit_rule, settle_rule}
+use Rattle.store.specs.Runs.{on_open, on_waiting, id_of, Answers, Step}
+use Rattle.store.specs.Transactions.{no_rows}
 use Rattle.store.specs.declared.calls.Answer.{Answer}
 use Rattle.store.specs.declared.calls.Call.{Call}
 use Rattle.store.specs.declared.calls.Call.TheVariants as call
@@ -26,7 +21,6 @@ use Rattle.store.specs.declared.refusals.Refusal.{Refusal}
 use Rattle.store.specs.declared.refusals.Refusal.TheVariants as refusal
 use Rattle.store.specs.declared.tickets.OpenTicket.{OpenTicket}
 use Rattle.store.specs.declared.tickets.WaitingTicket.{WaitingTicket}
-use Rattle.volume.specs.Volume.{cylinders_of}
 
 -- a decision that stores only on a ready device
 abbrev pub OnlyReady : {A : Type 0} → Decision A → Model → Type 0

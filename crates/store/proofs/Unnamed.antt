@@ -1,5 +1,5 @@
 -- A ticket whose numbers are no identifier.
-use Rattle.std.proofs.Common.{◌≡◌, None, Err, Option, sym, refl, ap, ◌∙◌, subst}
+use Rattle.std.proofs.Common.{◌≡◌, None, Err, Option, sym, refl, ap, subst}
 use Rattle.map.specs.declared.identifier.Identifier.{Identifier}
 use Rattle.store.specs.Decisions.{Decision, Follows}
 use Rattle.store.specs.Model.{Model}

@@ -5,7 +5,7 @@
 --   Obeys      a call of a store obeys a rule, which decides by the model
 --   StoresAll the stores of a plan and nothing else
 --   decide     a step of a rule that may refuse
-use Rattle.std.specs.Prelude.{◌≡◌, Bool, true, false, cond, List, Ok, Err, Result}
+use Rattle.std.specs.Prelude.{◌≡◌, Bool, true, false, List, Ok, Err, Result}
 use Rattle.device.specs.Blocks.{Block}
 use Rattle.device.specs.Plans.{Write, wrote, CutIn}
 use Rattle.device.specs.declared.device.Device.{Ghosts}

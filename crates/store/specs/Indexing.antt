@@ -6,7 +6,7 @@
 --   entry_plan     the stores of a whole transaction that sets an entry: its block, the commit, the tail
 --   created        the root block of a new object
 --   retrieve_rule, preserve_rule, delete_rule, create_rule
-use Rattle.std.specs.Prelude.{ℕ, Bool, true, false, cond, not, List, [], ◌∷◌, Some, None, Ok, Err, Option, Result, ◌==◌, nat_lt, slice_index, slice_set}
+use Rattle.std.specs.Prelude.{ℕ, cond, not, List, [], ◌∷◌, Some, None, Ok, Err, Option, Result, ◌==◌, nat_lt, slice_index, slice_set}
 use Rattle.std.specs.Option.{ok_or}
 use Rattle.allocation.specs.Choosing.{free_block, free_root, chosen}
 use Rattle.device.specs.Blocks.{Block}

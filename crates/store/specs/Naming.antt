@@ -1,6 +1,6 @@
 -- Objects by the two numbers that a caller offers.
 --   named   the object that they name, or the refusal: no such object
-use Rattle.std.specs.Prelude.{ℕ, List, Some, None, Option, Result}
+use Rattle.std.specs.Prelude.{List, Some, None, Option, Result}
 use Rattle.std.specs.Option.{ok_or}
 use Rattle.device.specs.Blocks.{Block}
 use Rattle.lookup.specs.Finding.{found}

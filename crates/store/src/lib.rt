@@ -1,5 +1,6 @@
 // The store: calls on the objects of a volume, over any device.
 #![tactic(auto)]
+
 mod admission;
 mod attachment;
 mod calls;

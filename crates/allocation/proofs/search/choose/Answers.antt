@@ -1,7 +1,6 @@
-use Rattle.std.proofs.Common.{◌≡◌, Some, None, Ok, sym, ap, ◌∙◌, ap₂, arith}
+use Rattle.std.proofs.Common.{◌≡◌, Ok, sym, ap, ◌∙◌, arith}
 use Rattle.allocation.specs.Choosing.{first_of, found_at}
 use Rattle.journal.proofs.Carrying.{ready_cylinders}
-use Rattle.journal.specs.Carried.{Ready}
 use Rattle.volume.specs.Volume.{cylinders_of}
 use Rattle.allocation.proofs.Firsts.{first_none, first_more, first_answer, no_answer, same_found}
 use Rattle.allocation.proofs.search.choose.Goals as goal

@@ -1,4 +1,4 @@
-use Rattle.std.proofs.Common.{◌≡◌, ℕ, ◌+◌, ◌*◌, ◌<◌, Bool, true, false, get_or, Some, sym, ap, ◌∙◌, arith, below_more}
+use Rattle.std.proofs.Common.{◌≡◌, ℕ, ◌+◌, ◌*◌, true, get_or, Some, sym, ap, ◌∙◌, arith, below_more}
 use Rattle.map.specs.declared.entry.Entry.TheVariants.{Map}
 use Rattle.std.specs.Option.{option_map}
 use Rattle.volume.proofs.Searching.{lowest_first, lowest_none}

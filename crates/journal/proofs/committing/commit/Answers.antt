@@ -1,8 +1,6 @@
-use Rattle.std.proofs.Common.{◌≡◌, ◌++◌, sym, ap, ◌∙◌, subst, arith}
 use Rattle.std.proofs.lemmas.Result.{err_from_is_err_and}
 use Rattle.device.specs.Plans.{wrote}
-use Rattle.journal.specs.Carried.{Whole, Went}
-use Rattle.journal.specs.Committing.{closing, followed, root_plan, place_plan, seal_plan}
+use Rattle.journal.specs.Committing.{seal_plan}
 use Rattle.journal.specs.Marking.{mark_rule}
 use Rattle.journal.specs.Passes.{pass_plan}
 use Rattle.journal.proofs.Carrying.{still_ready, whole_next, cut_next, closing_none, closing_on, closing_cut}

@@ -1,6 +1,5 @@
-use Rattle.std.proofs.Common.{◌≡◌, ◌≤◌, [], sym, subst, arith}
+use Rattle.std.proofs.Common.{◌≤◌, arith}
 use Rattle.map.specs.Addresses.{cylinder_of}
-use Rattle.journal.specs.Carried.{Whole}
 use Rattle.journal.proofs.Carrying.{none_stored}
 use Rattle.journal.proofs.Passing.{past_writes}
 use Rattle.journal.proofs.committing.pass_place.Goals as goal

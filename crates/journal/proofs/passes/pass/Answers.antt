@@ -1,7 +1,6 @@
-use Rattle.std.proofs.Common.{sym, refl, ap, subst, arith}
+use Rattle.std.proofs.Common.{arith}
 use Rattle.std.proofs.lemmas.Result.{err_from_is_err_and}
-use Rattle.journal.specs.Carried.{Whole, Went, planned}
-use Rattle.journal.specs.Passes.{pass_writes}
+use Rattle.journal.specs.Carried.{planned}
 use Rattle.journal.proofs.Carrying.{none_stored, still_ready, ready_cylinders}
 use Rattle.journal.proofs.Passing.{pass_more, pass_cut}
 use Rattle.journal.proofs.passes.pass.Goals as goal

@@ -1,4 +1,4 @@
-use Rattle.std.proofs.Common.{◌≡◌, ◌≤◌}
+use Rattle.std.proofs.Common.{◌≤◌}
 use Rattle.journal.specs.Carried.{Ready, Whole, planned}
 use Rattle.journal.specs.Passes.{pass_writes}
 use Rattle.journal.proofs.passes.pass.Given as goal

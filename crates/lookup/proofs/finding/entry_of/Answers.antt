@@ -1,4 +1,4 @@
-use Rattle.std.proofs.Common.{◌≡◌, Ok, sym, ap, ◌∙◌, arith}
+use Rattle.std.proofs.Common.{◌≡◌, Ok, sym, ap, arith}
 use Rattle.lookup.proofs.Past.{past_entry}
 use Rattle.map.specs.Addresses.{cylinder_of}
 use Rattle.lookup.proofs.finding.entry_of.Goals as goal

@@ -2,7 +2,6 @@ use Rattle.std.proofs.Common.{◌≡◌, ap, ◌∙◌, subst}
 use Rattle.journal.specs.Carried.{Carried}
 use Rattle.journal.specs.Committing.{commit_plan}
 use Rattle.journal.specs.Rows.{new_addresses}
-use Rattle.object.specs.declared.root.Root.{Root}
 use Rattle.store.specs.Indexing.{entry_rows}
 use Rattle.store.specs.Transactions.{root_after}
 use Rattle.store.proofs.indexing.commit_entry.Goals as goal

@@ -1,4 +1,3 @@
-use Rattle.std.proofs.Common.{◌≡◌, ◌++◌, refl}
 use Rattle.std.proofs.lemmas.Result.{err_from_is_err_and}
 use Rattle.device.specs.Plans.{wrote}
 use Rattle.journal.proofs.Carrying.{still_ready, whole_next, cut_next, cut_longer}

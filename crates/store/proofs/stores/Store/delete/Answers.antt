@@ -1,8 +1,7 @@
-use Rattle.std.proofs.Common.{◌≡◌, true, false, not, ltb, is_some, None, Ok, sym, refl, ap, ◌∙◌, subst, arith}
+use Rattle.std.proofs.Common.{◌≡◌, true, false, not, ltb, is_some, None, Ok, sym, refl, ap, ◌∙◌, subst}
 use Rattle.std.proofs.lemmas.Bool.{lt-ltb}
 use Rattle.store.proofs.Deleting.{delete_some}
 use Rattle.store.proofs.Following.{ready_when, looked, stored, decided, tested, ok_same}
-use Rattle.store.specs.Admission.{admitted}
 use Rattle.store.specs.Decisions.{Follows}
 use Rattle.store.specs.Indexing.{indexed, entry_held, free_for, entry_plan, delete_held}
 use Rattle.store.specs.Model.{seen}

@@ -1,4 +1,4 @@
-use Rattle.std.proofs.Common.{◌≡◌, take, vec_items, subst, arith}
+use Rattle.std.proofs.Common.{vec_items, subst, arith}
 use Rattle.std.proofs.lemmas.List.{take_all}
 use Rattle.store.proofs.Playing.{played_none, played_more}
 use Rattle.store.specs.Model.{seen}

@@ -1,7 +1,6 @@
-use Rattle.std.proofs.Common.{◌≡◌, false, not, ltb, Some, sym, refl, ap, ◌∙◌, arith}
+use Rattle.std.proofs.Common.{◌≡◌, false, not, ltb, Some, sym, refl, ap, ◌∙◌}
 use Rattle.std.proofs.lemmas.Bool.{lt-ltb}
 use Rattle.store.proofs.Following.{ready_when, looked, stored, decided, tested}
-use Rattle.store.specs.Admission.{admitted}
 use Rattle.store.specs.Indexing.{indexed, free_for, entry_plan}
 use Rattle.store.specs.Model.{seen}
 use Rattle.store.specs.Naming.{named}

@@ -1,4 +1,4 @@
-use Rattle.std.proofs.Common.{◌≡◌, length, sym, refl, ◌∙◌}
+use Rattle.std.proofs.Common.{length, sym, refl, ◌∙◌}
 use Rattle.std.proofs.lemmas.Result.{err_from_is_err_and}
 use Rattle.map.specs.Identifiers.{identified}
 use Rattle.store.proofs.Buffers.{left_alone}
