@@ -1,7 +1,7 @@
 -- Lists of stores: what a device holds after one, and after power failed inside one.
 --   Write   one store: the address and the bytes
 --   wrote   the blocks after every store of a list, in order
---   CutIn  power failed inside the list: a first part of it is done, and the store after that is
+--   CutIn   power failed inside the list: a first part of it is done, and the store after that is
 --           left old, new or unreadable
 --   Runs    a list of stores was carried out, or power failed inside it
 use Rattle.std.specs.Prelude.{◌≡◌, ℕ, Bool, true, false, ◌⊎◌, List, [], ◌∷◌, Ok, Err, Result, slice_set}

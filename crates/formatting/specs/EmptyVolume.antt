@@ -1,8 +1,8 @@
 -- The volume that formatting leaves.
 --   empty_entry   the entry of an address: a map at sector 0, the index at block 1, and every other free
 --   only_index    the objects: the index at block 1, of which every position reads as zeros, and no other
---   EmptyVolume  a complete volume at rest that has those entries and shows those objects
---   FormatLaw    the stores of formatting make an empty volume of any whole cylinders, at least one
+--   EmptyVolume   a complete volume at rest that has those entries and shows those objects
+--   FormatLaw     the stores of formatting make an empty volume of any whole cylinders, at least one
 use Rattle.std.specs.Prelude.{◌≡◌, ℕ, ◌*◌, ◌<◌, ◌≤◌, true, cond, List, length, replicate, Some, None, Option, ◌==◌}
 use Rattle.device.specs.Blocks.{Block}
 use Rattle.device.specs.Plans.{wrote}

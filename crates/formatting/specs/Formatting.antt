@@ -6,7 +6,7 @@
 --   first_map      the entries of a cylinder's map: its own, and that of the index if its place is there
 --   format_writes  the stores of one cylinder: its four root blocks, then its map
 --   format_plan    those of every cylinder, ascending
---   FormatOrder   the addresses that formatting two cylinders stores at, in order
+--   FormatOrder    the addresses that formatting two cylinders stores at, in order
 use Rattle.std.specs.Prelude.{◌≡◌, ℕ, ◌+◌, ◌*◌, false, cond, List, [], ◌∷◌, map, replicate, ◌==◌, slice_set}
 use Rattle.device.specs.Plans.{Write, write}
 use Rattle.journal.specs.Carried.{planned}

@@ -1,6 +1,6 @@
 -- The tail of every change: maps are settled, then commit bits are cleared.
 --   roots_of     the root entries of a volume; every other address is free
---   RootsRead   a table with the root entries of these blocks was read
+--   RootsRead    a table with the root entries of these blocks was read
 --   noted        the table with the root entries of one cylinder
 --   settle_rule  settles the maps that need it, by these entries
 --   clear_rule   clears the maps that have a commit bit

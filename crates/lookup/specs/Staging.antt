@@ -1,7 +1,7 @@
 -- The blocks that a staged write makes.
 --   staged         the words of a position with a run of new ones in the place of as many
 --   staged_block   the bytes of those words, if the run stays inside the position
---   StagedWords   the words of that block are the staged ones, if each word fits two bytes
+--   StagedWords    the words of that block are the staged ones, if each word fits two bytes
 use Rattle.std.specs.Prelude.{◌≡◌, ℕ, ◌+◌, ◌^◌, ◌<◌, cond, List, length, Some, None, Option, nat_le, slice_index}
 use Rattle.object.specs.Words.{words_of, bytes_of, replaced}
 

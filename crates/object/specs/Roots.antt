@@ -2,7 +2,7 @@
 --   encoded_root   512 zeros; for a live one with tag, address and kind, and 64 addresses from byte 16 on
 --   fits_root      a root block that may stand at an address, in a volume of so many cylinders
 --   decoded_root   the root block whose bytes are exactly these, if it fits
---   RootsReturn   the two round trips
+--   RootsReturn    the two round trips
 use Rattle.std.specs.Prelude.{◌≡◌, ℕ, ◌+◌, ◌^◌, ◌<◌, Bool, true, cond, ◌&&◌, ◌||◌, List, [], ◌∷◌, map, length, replicate, Some, None, Option, ◌==◌, nat_lt, slice_index}
 use Rattle.std.specs.List.{range_with_len}
 use Rattle.map.specs.Addresses.{cylinder_of, data_block}

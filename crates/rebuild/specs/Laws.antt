@@ -1,6 +1,6 @@
 -- What the lost map is once every root block is taken and every other map noted.
---   Long           a live root block has 64 addresses
---   rebuilt_map    the lost map then
+--   Long          a live root block has 64 addresses
+--   rebuilt_map   the lost map then
 --   RebuildLaw    it is the map that the root blocks give back
 --   VolumeLaw     of a volume whose map c is lost, it is the map that a restart goes by
 --   HeldBy        two root places and positions that hold an address

@@ -1,9 +1,9 @@
 -- A commit, over its whole list of stores.
 --   block_after       the block that a position has once its row is carried out
---   NewBlock         a free data block that a row may name
+--   NewBlock          a free data block that a row may name
 --   Saves             what an open transaction may ask for, of a volume at rest
 --   saved             the object that it asks for
---   CommitPlanLaw   the stores of a commit replace the object by that one, all of it or nothing
+--   CommitPlanLaw     the stores of a commit replace the object by that one, all of it or nothing
 use Rattle.std.specs.Prelude.{◌≡◌, ℕ, ◌*◌, ◌<◌, ◌≤◌, false, List, length, Some, None, Option, slice_index}
 use Rattle.device.specs.Blocks.{Block, block_at}
 use Rattle.journal.specs.Committing.{commit_plan}

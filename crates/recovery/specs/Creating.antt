@@ -2,7 +2,7 @@
 --   Creates           what a create may ask for: a free root place of a volume at rest, and the root block of an
 --                     object without blocks
 --   empty_object      that object: every position shows zeros
---   CreatePlanLaw   the stores of a create add it and change no other, all of it or nothing
+--   CreatePlanLaw     the stores of a create add it and change no other, all of it or nothing
 use Rattle.std.specs.Prelude.{◌≡◌, ◌*◌, ◌<◌, ◌≤◌, true, List, length, replicate, Some, None, Option}
 use Rattle.device.specs.Blocks.{Block}
 use Rattle.device.specs.Plans.{wrote}

@@ -1,6 +1,6 @@
 -- The stores of the tail of a change: maps settled, then commit bits cleared.
 --   Finished    what they leave: a volume at rest that shows the same objects, with every block past the maps as it was
---   FinishLaw  done to the end they finish the volume; cut anywhere they leave its meaning
+--   FinishLaw   done to the end they finish the volume; cut anywhere they leave its meaning
 use Rattle.std.specs.Prelude.{◌≡◌, ℕ, ◌*◌, ◌<◌, List, length, Option}
 use Rattle.device.specs.Blocks.{Block, block_at}
 use Rattle.device.specs.Plans.{wrote, CutIn}

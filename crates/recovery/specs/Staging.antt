@@ -1,6 +1,6 @@
 -- A store at a free data block, as a transaction makes one for each new block.
 --   Staged      the volume is as it was, but for what a block holds that no entry names
---   StageLaw   such a store leaves it so, done or cut in any manner
+--   StageLaw    such a store leaves it so, done or cut in any manner
 use Rattle.std.specs.Prelude.{◌≡◌, ℕ, ◌<◌, ◌≤◌, List, length}
 use Rattle.device.specs.Blocks.{Block, left_by}
 use Rattle.device.specs.declared.answers.Manner.{Manner}

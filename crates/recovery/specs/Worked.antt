@@ -3,7 +3,7 @@
 --   asked_rows     the transaction: position 0 is cleared, position 1 stays, position 2 gets block 38
 --   asked_root     the file's new root block
 --   new_object     the root block of a normal object with tag 8, to be created at root place 3
---   RequestsMet   the transaction and the create may be asked for, and block 38 may be stored at; the commit
+--   RequestsMet    the transaction and the create may be asked for, and block 38 may be stored at; the commit
 --                  stores two maps with intentions, the root block, and the map with the commit bit
 use Rattle.std.specs.Prelude.{◌≡◌, ◌<◌, ◌≤◌, List, ◌∷◌, length, replicate}
 use Rattle.journal.specs.Committing.{commit_plan}

@@ -1,13 +1,13 @@
 -- The stores that change what a restart would show: one object, and all of its change or none of it.
---   MapFor        a block that is a map of cylinder c, and says the entries of E
+--   MapFor         a block that is a map of cylinder c, and says the entries of E
 --   Agreeing       every root block of the volume is the one that its maps make due
 --   replaced       the objects with the one at root place r replaced
 --   meant_by       the objects that a cut store leaves, by the manner of the cut: old, new, or those of a torn block
---   ChangesOne    what a map store does that changes the object at one root place
+--   ChangesOne     what a map store does that changes the object at one root place
 --   BitStoreLaw, RemovalStoreLaw, CreateStoreLaw   the map stores of a commit, a removal and a create
 --   rewritten      an object with other words at one position
---   RewritesOne   what a store at a block that one position counts does
---   InPlaceLaw   such a store at a block of an object that is no index
+--   RewritesOne    what a store at a block that one position counts does
+--   InPlaceLaw     such a store at a block of an object that is no index
 --   CompleteKept, AgreeKept   the stores that leave a volume complete, and its root blocks in agreement, so that
 --                  laws about one store apply to the next
 use Rattle.std.specs.Prelude.{◌≡◌, ℕ, ◌*◌, ◌<◌, ◌≤◌, true, false, cond, List, Some, None, Option, ◌==◌, ◌≢◌, slice_index_or, slice_set}

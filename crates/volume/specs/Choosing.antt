@@ -5,7 +5,7 @@
 --   any_of          whether one of a map's entries passes a test
 --   any_unsettled   a map that needs settling
 --   any_committed   a map with a commit bit
---   ChoosingLaw    a map that is not chosen would not change, and its entries are quiet
+--   ChoosingLaw     a map that is not chosen would not change, and its entries are quiet
 use Rattle.std.specs.Prelude.{◌≡◌, Bool, true, false, not, ◌||◌, List, [], ◌∷◌, map}
 use Rattle.map.specs.declared.entry.DataState.TheVariants as data_state
 use Rattle.map.specs.declared.entry.Entry.{Entry}

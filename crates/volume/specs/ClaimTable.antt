@@ -6,7 +6,7 @@
 --   doubled      the entry counts, and another has its slot already
 --   filled_to    the table after the addresses below m
 --   claimed_from, first_doubled   the same for the entries of one map, and the first that finds its slot taken
---   TableLaw    then each slot has the lowest block that counts for it
+--   TableLaw     then each slot has the lowest block that counts for it
 use Rattle.std.specs.Prelude.{◌≡◌, ℕ, zero, suc, ◌+◌, ◌*◌, ◌<◌, ◌≤◌, Bool, true, cond, not, ◌&&◌, List, [], ◌∷◌, replicate, Some, None, Option, ◌==◌, slice_index, slice_set}
 use Rattle.map.specs.Addresses.{root_place}
 use Rattle.map.specs.declared.entry.Entry.{Entry}

@@ -2,8 +2,8 @@
 --   claimed_twice    blocks 37 and 38 both count for position 0 of the file, and block 39 for position 1
 --   past_the_last    block 37 counts for position 64 of the file
 --   first_claims, no_claims   the root blocks that agree with each
---   GivenBackWith  losing a map changes nothing that a restart would show, with these premises
---   PremisesNeeded  what counts, and what counts by the entries that are given back: they differ
+--   GivenBackWith    losing a map changes nothing that a restart would show, with these premises
+--   PremisesNeeded   what counts, and what counts by the entries that are given back: they differ
 use Rattle.std.specs.Prelude.{◌≡◌, ℕ, ◌*◌, ◌<◌, true, false, cond, ◌∷◌, replicate, Some, None, ◌==◌}
 use Rattle.map.specs.declared.entry.DataState.TheVariants as data_state
 use Rattle.map.specs.declared.entry.Entry.TheVariants.{Free, Root, Data}

@@ -1,9 +1,9 @@
 -- What a store at a cylinder map does to the objects that a restart would show.
 --   Sound          every map can be used, no two counted entries share object and position, and root blocks
 --                  are those that are due
---   TornMapLaw   while a volume is sound, losing any one map changes nothing that a restart would show
+--   TornMapLaw     while a volume is sound, losing any one map changes nothing that a restart would show
 --   map_changed    the entries with those of one cylinder taken from a list
---   MapStoreLaw  a map that is stored whole changes the entries of its cylinder to those that were written
+--   MapStoreLaw    a map that is stored whole changes the entries of its cylinder to those that were written
 use Rattle.std.specs.Prelude.{◌≡◌, ℕ, ◌*◌, ◌<◌, cond, List, Some, ◌==◌, slice_index_or, slice_set}
 use Rattle.device.specs.Blocks.{Block}
 use Rattle.map.specs.Addresses.{cylinder_of, sector_of}

@@ -2,7 +2,7 @@
 --   Usable        every map can be read and is well formed
 --   Quiet         an entry with no intention and no commit bit; a data entry counts
 --   Rest          usable, every entry quiet, no two counted entries for one position, root blocks as they are due
---   HeldOnce     a data block is allocated exactly when one root block holds it, at one position
+--   HeldOnce      a data block is allocated exactly when one root block holds it, at one position
 --   MeetingLaw
 use Rattle.std.specs.Prelude.{◌≡◌, ℕ, ◌*◌, ◌<◌, true, false, List, Some}
 use Rattle.device.specs.Blocks.{Block}

@@ -1,7 +1,7 @@
 -- What a map store that changes one object asks for, and how it comes about.
 --   WrittenMapLaw  a map with one of its entries changed says the entries with that change
 --   NoPositionLaw  no entry is for a position past the last, so such a position has no block
---   LeftAlone       what stores away from maps, and away from root blocks, leave as it is
+--   LeftAlone      what stores away from maps, and away from root blocks, leave as it is
 --   RootStoreLaw   once the root block that will be due is stored, root blocks agree with the entries to come
 use Rattle.std.specs.Prelude.{◌≡◌, ℕ, ◌*◌, ◌<◌, ◌≤◌, true, cond, List, Some, None, ◌==◌, slice_index_or, slice_set}
 use Rattle.device.specs.Blocks.{Block}

@@ -1,6 +1,6 @@
 -- Doing it twice is doing it once, and what a restart finds when one map is lost.
 --   Once           settling, clearing and rebuilding a second time changes nothing
---   LostAccepted  of a sound volume, whichever map is lost, every root block can be used and no address is
+--   LostAccepted   of a sound volume, whichever map is lost, every root block can be used and no address is
 --                  held twice
 use Rattle.std.specs.Prelude.{◌≡◌, ℕ, ◌*◌, ◌<◌, true, List, Some}
 use Rattle.device.specs.Blocks.{Block}

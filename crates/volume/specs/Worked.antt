@@ -3,9 +3,9 @@
 --   saving          the entries once the intentions are marked, with the commit bit set or not
 --   roots_with      root blocks in which that file has these addresses
 --   roots_holding   root blocks in which position 0 of that file is this block
---   SaveWorked     what counts before and after the bit, settled, cleared, and with either map lost
---   PremisesHold   the premises of the lost-map law, on this volume
---   ShortcutsFail  three shortcuts that would mix two saves
+--   SaveWorked      what counts before and after the bit, settled, cleared, and with either map lost
+--   PremisesHold    the premises of the lost-map law, on this volume
+--   ShortcutsFail   three shortcuts that would mix two saves
 use Rattle.std.specs.Prelude.{◌≡◌, ℕ, ◌%◌, Bool, true, false, cond, List, ◌∷◌, replicate, Some, None, ◌==◌}
 use Rattle.map.specs.declared.entry.DataState.TheVariants as data_state
 use Rattle.map.specs.declared.entry.Entry.{Entry}

@@ -4,8 +4,8 @@
 --   first_map, second_map   the entries of a volume at rest: the root index has block 5 for position 0, the file has
 --                    block 6 for position 0 and block 37 for position 1
 --   index_root, file_root   the two root blocks
---   resting          that volume, block by block, as the encoders write it
---   second_marked    its second map with block 38 marked as intending to be allocated
+--   resting         that volume, block by block, as the encoders write it
+--   second_marked   its second map with block 38 marked as intending to be allocated
 --   BlockPremises   the premises of the laws about blocks
 use Rattle.std.specs.Prelude.{◌≡◌, ℕ, ◌*◌, ◌<◌, ◌≤◌, true, false, cond, List, ◌∷◌, ◌++◌, length, replicate, Some, None, ◌==◌, ◌≢◌, slice_set}
 use Rattle.device.specs.Blocks.{Block}
