@@ -1,14 +1,13 @@
 -- The first of several answers.
-use Rattle.std.proofs.Common.{◌≡◌, ℕ, zero, suc, ◌+◌, ◌*◌, ◌<◌, Bool, true, false, List, is_some, Some, None, Ok, Option, Result, sym, refl, ap, ◌∙◌, ap₂, ⊎_elim, add-one, arith}
+use Rattle.std.proofs.Common.{◌≡◌, ℕ, zero, suc, ◌+◌, ◌<◌, ◌≤◌, Bool, true, false, List, is_some, MatchOption, Some, None, Ok, Option, Result, sym, refl, ap, ◌∙◌, ap₂, ⊎_elim, add-one, arith}
 use Rattle.std.proofs.lemmas.Bool.{cases_eq, true≢false, false≢true}
 use Rattle.allocation.specs.Choosing.{first_in, first_of, tried, found_at}
-use Rattle.device.specs.Blocks.{Block, block_at}
+use Rattle.device.specs.Blocks.{Block}
 use Rattle.map.specs.declared.entry.Entry.{Entry}
-use Rattle.journal.proofs.Carrying.{ready_cylinders}
-use Rattle.journal.specs.Carried.{Ready}
-use Rattle.journal.specs.declared.blocks.PowerCut.{PowerCut}
-use Rattle.volume.specs.Search.{or_else}
-use Rattle.volume.specs.Volume.{cylinders_of, map_in}
+use Rattle.device.specs.declared.power.PowerCut.{PowerCut}
+use Rattle.volume.proofs.Searching.{lowest_none, lowest_first}
+use Rattle.volume.specs.Search.{lowest, or_else}
+use Rattle.volume.specs.Volume.{cylinders_of, map_at}
 
 module _ (f : ℕ → Option ℕ) where
   pub first_none : first_of f 0 ≡ None
@@ -33,14 +32,19 @@ module _ (f : ℕ → Option ℕ) where
   first_answer n k None h below here some = absurd (false≢true some)
   first_answer n k (Some a) h below here some = first_found n k a h below here
 
+-- the first of a range
+pub range_lowest : (f : ℕ → Bool) (n : ℕ) (r : Option ℕ) →
+    MatchOption r ((k : ℕ) → 0 ≤ k → k < n → f k ≡ false) (λ i. (0 ≤ i) × (i < n) × (f i ≡ true) × ((k : ℕ) → 0 ≤ k → k < i → f k ≡ false)) → r ≡ lowest f n
+range_lowest f n None none = sym (lowest_none f n (λ k h. none k (omega arith) h))
+range_lowest f n (Some i) is = sym (lowest_first f n i is.1 is.2 (λ k h. is.3 k (omega arith) h))
+
 pub no_answer : (o : Option ℕ) → is_some o ≡ false → o ≡ None
 no_answer None none = refl
 no_answer (Some a) none = absurd (true≢false none)
 
 -- the answer of the cylinder that is tried after k others
-pub same_found : (fits : ℕ → Entry → Bool) (blocks : List Block) (lit : Bool) (cylinders start k c : ℕ) (found : Option ℕ) → Ready blocks lit cylinders → c ≡ tried cylinders start k →
-    ◌≡◌ {A = Result (Option ℕ) PowerCut} (Ok found) (Ok (first_in fits c (map_in cylinders c (block_at blocks (32 * c))))) → found ≡ found_at fits start blocks k
-same_found fits blocks lit cylinders start k c found ready here is =
-    let same : cylinders ≡ cylinders_of blocks = sym (ready_cylinders ready) in
-    let answer : found ≡ first_in fits c (map_in cylinders c (block_at blocks (32 * c))) = cc in
-    answer ∙ ap₂ (λ d n. first_in fits d (map_in n d (block_at blocks (32 * d)))) (here ∙ ap (λ n. tried n start k) same) same
+pub same_found : (fits : ℕ → Entry → Bool) (blocks : List Block) (start k c n : ℕ) (found : Option ℕ) → n ≡ cylinders_of blocks → c ≡ tried n start k →
+    ◌≡◌ {A = Result (Option ℕ) PowerCut} (Ok found) (Ok (first_in fits c (map_at blocks c))) → found ≡ found_at fits start blocks k
+same_found fits blocks start k c n found all here is =
+    let answer : found ≡ first_in fits c (map_at blocks c) = cc in
+    answer ∙ ap (λ d. first_in fits d (map_at blocks d)) (here ∙ ap (λ m. tried m start k) all)

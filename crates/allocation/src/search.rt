@@ -1,26 +1,21 @@
 // The search, cylinder by cylinder.
-ghost use Rattle.std.specs.Prelude.{◌≡◌, ◌*◌, ◌<◌, true, Some, None, Ok};
+ghost use Rattle.std.specs.Prelude.{◌≡◌, ◌<◌, Some};
 ghost use Rattle.allocation.specs.Choosing.{first_in, tried, chosen};
-ghost use Rattle.device.specs.Blocks.{block_at};
-ghost use Rattle.journal.specs.Carried.{Tells};
-ghost use Rattle.volume.specs.Volume.{map_in};
+ghost use Rattle.journal.specs.Carried.{TellsAll};
+ghost use Rattle.volume.specs.Volume.{map_at};
 
 use crate::wanted::Wanted;
-use device::Device;
-use journal::{PowerCut, load_map};
-use map::Entry;
+use device::{Device, PowerCut};
+use journal::{cylinders, load_map};
+use map::{Entry, join};
 
 // The lowest address of a cylinder's map that will do.
 fn first_in_map<W: Wanted>(wanted: &W, cylinder: u8, entries: &[Entry; 32]) -> Option<u16>
     ensures { result ≡ first_in (W.passes wanted.now) cylinder (Some entries.now) }
 {
-    for (s, entry) in entries.iter().enumerate() {
-        let a = 32 * u16::from(cylinder) + s as u16;
-        if wanted.fits(a, *entry) {
-            return Some(a);
-        }
-    }
-    None
+    (0..32)
+        .find(|s| wanted.fits(join(cylinder, *s), entries[usize::from(*s)]))
+        .map(|s| join(cylinder, s))
 }
 
 // The lowest address of a cylinder that will do; none if its map cannot be used.
@@ -28,14 +23,14 @@ fn first_in_cylinder<D: Device, W: Wanted>(
     device: &D,
     wanted: &W,
     cylinder: u8,
-    cylinders: u8,
 ) -> Result<Option<u16>, PowerCut>
-    ensures { D.lit device.now ≡ true → result ≡ Ok (first_in (W.passes wanted.now) cylinder (map_in cylinders cylinder (block_at (D.blocks device.now) (32 * cylinder)))) }
+    ensures { TellsAll D.Device device.now (λ all. first_in (W.passes wanted.now) cylinder (map_at all cylinder)) result }
 {
-    match load_map(device, cylinder, cylinders)? {
-        Some(entries) => Ok(first_in_map(wanted, cylinder, &entries)),
-        None => Ok(None),
-    }
+    let entries = load_map(device, cylinder, cylinders(device))?;
+    let found = entries
+        .as_ref()
+        .and_then(|entries| first_in_map(wanted, cylinder, entries));
+    Ok(found)
 }
 
 // The cylinder that is tried after `k` others.
@@ -52,17 +47,13 @@ pub fn choose<D: Device, W: Wanted>(
     device: &D,
     wanted: &W,
     start: u32,
-    cylinders: u8,
 ) -> Result<Option<u16>, PowerCut>
-    ensures { Tells D.Device device.now cylinders (chosen (W.passes wanted.now) start) result }
+    ensures { TellsAll D.Device device.now (chosen (W.passes wanted.now) start) result }
 {
-    for k in 0..cylinders {
-        let found = first_in_cylinder(
-            device,
-            wanted,
-            next_cylinder(cylinders, start, k),
-            cylinders,
-        )?;
+    // Counted by turn: a chain of two ranges would need a cylinder to start from, and there may be none.
+    let n = cylinders(device);
+    for k in 0..n {
+        let found = first_in_cylinder(device, wanted, next_cylinder(n, start, k))?;
         if found.is_some() {
             return Ok(found);
         }

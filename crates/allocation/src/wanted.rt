@@ -1,6 +1,6 @@
 // What is looked for: a free data block, or a free root place.
 ghost use Rattle.std.specs.Prelude.{◌≡◌, ℕ, Bool};
-ghost use Rattle.allocation.specs.Choosing.{is_free, free_block, free_root};
+ghost use Rattle.allocation.specs.Choosing.{free_block, free_root};
 ghost use Rattle.map.specs.declared.entry.Entry.{Entry as MapEntry};
 
 use journal::{Row, position_of};
@@ -16,16 +16,6 @@ pub trait Wanted {
         ensures { result ≡ passes self.now a entry };
 }
 
-// Whether an entry is free.
-fn is_free(entry: Entry) -> bool
-    ensures { result ≡ is_free entry }
-{
-    match entry {
-        Entry::Free => true,
-        _ => false,
-    }
-}
-
 /// A free data block that no row holds.
 #[derive(Clone, Copy)]
 pub struct FreeBlock {
@@ -36,7 +26,7 @@ impl Wanted for FreeBlock {
     ghost passes = { λ s. free_block s.rows };
 
     fn fits(&self, a: u16, entry: Entry) -> bool {
-        a % 32 >= 5 && is_free(entry) && position_of(&self.rows, a).is_none()
+        a % 32 >= 5 && entry == Entry::Free && position_of(&self.rows, a).is_none()
     }
 }
 
@@ -48,6 +38,6 @@ impl Wanted for FreeRoot {
     ghost passes = { λ s. free_root };
 
     fn fits(&self, a: u16, entry: Entry) -> bool {
-        a % 32 >= 1 && a % 32 <= 4 && is_free(entry)
+        a % 32 >= 1 && a % 32 <= 4 && entry == Entry::Free
     }
 }

@@ -5,7 +5,7 @@
 mod tally;
 
 use device::{Cut, Manner, Trial};
-use saving::{Job, Outcome, Report, replay};
+use saving::{Job, Report, replay};
 use std::alloc::{AllocError, Global};
 use std::io;
 use tally::{Fault, Tally};
@@ -17,27 +17,19 @@ const FAR: u32 = 64;
 
 // A job whose part i is filled with `first + i`.
 fn job(first: u8) -> Job {
-    let mut parts = [[0; 512]; 8];
-    let mut fill = first;
-    for part in parts.iter_mut() {
-        *part = [fill; 512];
-        fill = fill.wrapping_add(1);
+    Job {
+        parts: [0, 1, 2, 3, 4, 5, 6, 7].map(|i| [first.wrapping_add(i); 512]),
     }
-    Job { parts }
 }
 
 // A drive of 17 readable blocks that holds the job, no spare copy and no marker.
 fn drive(heap: Global, job: &Job, first: Cut, second: Cut) -> Result<Trial, AllocError> {
     let mut bytes = Vec::new(heap);
-    for part in job.parts.iter() {
-        bytes.extend_from_slice(part)?;
-    }
-    for _ in 0..9 {
-        bytes.extend_from_slice(&[0; 512])?;
-    }
-    let marks = vec![in heap; 0u8; 17]?;
-    let never = Cut::NEVER;
-    let cuts = [first, second, never, never, never, never, never, never];
+    bytes.extend_from_slice(job.parts.as_flattened())?;
+    bytes.resize(17 * 512, 0)?;
+    let marks = vec![in heap; 0; 17]?;
+    let mut cuts = [Cut::NEVER; 8];
+    cuts[..2].copy_from_slice(&[first, second]);
     Ok(Trial::new(bytes, marks, cuts))
 }
 
@@ -48,94 +40,68 @@ fn run(heap: Global, first: Cut, second: Cut) -> Result<Report, AllocError> {
     Ok(replay(&mut drive, &old, &new))
 }
 
-// Every first cut alone.
-fn one_cut(heap: Global) -> Result<Tally, AllocError> {
-    let mut tally = Tally::new(heap);
-    for at in 1..FAR {
-        for manner in MANNERS {
-            let first = Cut { at, manner };
-            let report = run(heap, first, Cut::NEVER)?;
-            if report.saved {
-                return Ok(tally);
-            }
-            tally.note(first, Cut::NEVER, report.outcome)?;
-        }
-    }
-    Ok(tally)
-}
-
-// This first cut with every second cut that the recovery reaches.
-fn second_cuts(heap: Global, first: Cut, tally: &mut Tally) -> Result<(), AllocError> {
-    for at in 1..FAR {
-        for manner in MANNERS {
-            let second = Cut { at, manner };
-            let report = run(heap, first, second)?;
-            if report.cuts == 0 {
-                return Ok(());
-            }
-            tally.note(first, second, report.outcome)?;
+// Visits the cuts in turn, each store left old, new and unreadable, as long as the visit goes on.
+fn each_cut<F: FnMut(Cut) -> Result<bool, AllocError>>(mut visit: F) -> Result<(), AllocError>
+    requires { F.IsAlwaysCallable visit }
+{
+    for cut in (1..FAR).flat_map(|at| MANNERS.map(|manner| Cut { at, manner })) {
+        if !visit(cut)? {
+            return Ok(());
         }
     }
     Ok(())
 }
 
-fn two_cuts(heap: Global) -> Result<Tally, AllocError> {
+// Every first cut alone.
+fn one_cut(heap: Global) -> Result<Tally, AllocError> {
     let mut tally = Tally::new(heap);
-    for at in 1..FAR {
-        for manner in MANNERS {
-            let first = Cut { at, manner };
-            if run(heap, first, Cut::NEVER)?.saved {
-                return Ok(tally);
-            }
-            second_cuts(heap, first, &mut tally)?;
+    each_cut(|first| {
+        let report = run(heap, first, Cut::NEVER)?;
+        if report.saved {
+            return Ok(false);
         }
-    }
+        tally.note(first, Cut::NEVER, report.outcome)?;
+        Ok(true)
+    })?;
     Ok(tally)
 }
 
-fn manner_text(manner: Manner) -> &'static str {
-    match manner {
-        Manner::Old => "old",
-        Manner::New => "new",
-        Manner::Unreadable => "unreadable",
-    }
-}
-
-fn outcome_text(outcome: Outcome) -> &'static str {
-    match outcome {
-        Outcome::Old => "the whole old job",
-        Outcome::New => "the whole new job",
-        Outcome::Mixed => "a mixed job",
-        Outcome::PartUnreadable => "a part cannot be read",
-        Outcome::MarkerUnreadable => "the marker cannot be read",
-        Outcome::Unfinished => "power failed in every recovery",
-        Outcome::TooSmall => "the drive is too small",
-    }
+// Every first cut with every second cut that the recovery reaches.
+fn two_cuts(heap: Global) -> Result<Tally, AllocError> {
+    let mut tally = Tally::new(heap);
+    each_cut(|first| {
+        if run(heap, first, Cut::NEVER)?.saved {
+            return Ok(false);
+        }
+        each_cut(|second| {
+            let report = run(heap, first, second)?;
+            if report.cuts == 0 {
+                return Ok(false);
+            }
+            tally.note(first, second, report.outcome)?;
+            Ok(true)
+        })?;
+        Ok(true)
+    })?;
+    Ok(tally)
 }
 
 fn show_fault(rt: &HostRuntime, fault: &Fault) -> io::Result<()> {
-    let at = fault.first.at;
-    let manner = manner_text(fault.first.manner);
+    let Cut { at, manner } = fault.first;
     print!(rt; "    save cut at store {at:>2}, left {manner:<10}")?;
-    if fault.second.at > 0 {
-        let at = fault.second.at;
-        let manner = manner_text(fault.second.manner);
+    if fault.second != Cut::NEVER {
+        let Cut { at, manner } = fault.second;
         print!(rt; "  recovery cut at store {at}, left {manner:<10}")?;
     }
-    let end = outcome_text(fault.outcome);
-    println!(rt; "  {end}")
+    println!(rt; "  {}", fault.outcome)
 }
 
 fn show(rt: &HostRuntime, title: &str, tally: &Tally) -> io::Result<()> {
-    let runs = tally.runs;
-    let old = tally.old;
-    let new = tally.new;
-    let faults = tally.faults.len();
     println!(rt; "{title}")?;
-    println!(rt; "  runs                {runs:>4}")?;
-    println!(rt; "  whole old job       {old:>4}")?;
-    println!(rt; "  whole new job       {new:>4}")?;
-    println!(rt; "  ended otherwise     {faults:>4}")?;
+    println!(rt; "  runs                {:>4}", tally.runs)?;
+    println!(rt; "  whole old job       {:>4}", tally.old)?;
+    println!(rt; "  whole new job       {:>4}", tally.new)?;
+    println!(rt; "  ended otherwise     {:>4}", tally.faults.len())?;
     for fault in tally.faults.iter() {
         show_fault(rt, fault)?;
     }

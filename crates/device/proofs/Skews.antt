@@ -1,15 +1,15 @@
 -- Why the skew permutes the blocks of a cylinder, and what a store below does to what it shows.
-use Rattle.std.proofs.Common.{◌≡◌, ℕ, zero, suc, ◌+◌, ◌*◌, ◌/◌, ◌%◌, ◌^◌, ◌<◌, Bool, true, cond, ◌&&◌, eqb, List, length, set, sym, refl, ap, ◌∙◌, ap₂, ⊎_elim, arith}
+use Rattle.std.proofs.Common.{◌≡◌, ℕ, zero, suc, ◌+◌, ◌*◌, ◌/◌, ◌%◌, ◌^◌, ◌<◌, Bool, true, cond, ◌&&◌, eqb, List, length, Ok, Err, Result, set, sym, refl, ap, ◌∙◌, ap₂, ⊎_elim, arith}
 use Rattle.std.proofs.lemmas.Nat.{mod_below}
 use Rattle.std.proofs.lemmas.List.{length-set, get_or-set_same, get_or-set_other, ext_get_or}
 use Rattle.std.proofs.lemmas.Bool.{eqb-true, and_parts, cases_eq}
 use Rattle.device.specs.Blocks.{Block, block_at, left_by, Reads, Stores}
 use Rattle.device.specs.declared.answers.Manner.{Manner}
 use Rattle.device.specs.declared.answers.Manner.TheVariants as manner
-use Rattle.device.specs.declared.answers.Reading.{Reading}
-use Rattle.device.specs.declared.answers.Reading.TheVariants as reading
-use Rattle.device.specs.declared.answers.Storing.{Storing}
-use Rattle.device.specs.declared.answers.Storing.TheVariants as storing
+use Rattle.device.specs.declared.answers.ReadError.{ReadError}
+use Rattle.device.specs.declared.answers.ReadError.TheVariants as reading
+use Rattle.device.specs.declared.answers.StoreError.{StoreError}
+use Rattle.device.specs.declared.answers.StoreError.TheVariants as storing
 use Rattle.device.specs.SkewLaws.{skewed_size, skewed_at}
 use Rattle.device.specs.Skews.{Allowed, place, skewed, Permutes}
 
@@ -121,11 +121,11 @@ module _ (k : ℕ) (allowed : Allowed k) (blocks : List Block) (b : ℕ) (within
   skewed_within = omega (arith, skewed_size k blocks)
 
   -- a read at the block's place below is a read of the block above
-  pub read_skewed : (lit : Bool) (r : Reading) (old new : List ℕ) → Reads blocks lit (place k b) r old new → Reads (skewed k blocks) lit b r old new
-  read_skewed lit reading.Outside old new s = absurd (omega (arith, place_within k allowed b (length blocks) within))
-  read_skewed lit reading.Dark old new s = (skewed_within, s.1, s.2)
-  read_skewed lit reading.Unreadable old new s = (skewed_within, s.1, skewed_at k blocks b within ∙ s.2, s.3)
-  read_skewed lit reading.Done old new s = (skewed_within, s.1, skewed_at k blocks b within ∙ s.2)
+  pub read_skewed : (lit : Bool) (r : Result (Unit {0}) ReadError) (old new : List ℕ) → Reads blocks lit (place k b) r old new → Reads (skewed k blocks) lit b r old new
+  read_skewed lit (Err reading.Outside) old new s = absurd (omega (arith, place_within k allowed b (length blocks) within))
+  read_skewed lit (Err reading.Dark) old new s = (skewed_within, s.1, s.2)
+  read_skewed lit (Err reading.Unreadable) old new s = (skewed_within, s.1, skewed_at k blocks b within ∙ s.2, s.3)
+  read_skewed lit (Ok _) old new s = (skewed_within, s.1, skewed_at k blocks b within ∙ s.2)
 
   left_skewed : (m : Manner) (bytes : List ℕ) → skewed k (left_by m blocks (place k b) bytes) ≡ left_by m (skewed k blocks) b bytes
   left_skewed manner.Old bytes = refl
@@ -133,8 +133,8 @@ module _ (k : ℕ) (allowed : Allowed k) (blocks : List Block) (b : ℕ) (within
   left_skewed manner.Unreadable bytes = skewed_set Block.unreadable
 
   -- a store at the block's place below is a store of the block above
-  pub store_skewed : (lit : Bool) (bytes : List ℕ) (r : Storing) (blocks' : List Block) (lit' : Bool) → Stores blocks lit (place k b) bytes r blocks' lit' → Stores (skewed k blocks) lit b bytes r (skewed k blocks') lit'
-  store_skewed lit bytes storing.Outside blocks' lit' s = absurd (omega (arith, place_within k allowed b (length blocks) within))
-  store_skewed lit bytes storing.Dark blocks' lit' s =
+  pub store_skewed : (lit : Bool) (bytes : List ℕ) (r : Result (Unit {0}) StoreError) (blocks' : List Block) (lit' : Bool) → Stores blocks lit (place k b) bytes r blocks' lit' → Stores (skewed k blocks) lit b bytes r (skewed k blocks') lit'
+  store_skewed lit bytes (Err storing.Outside) blocks' lit' s = absurd (omega (arith, place_within k allowed b (length blocks) within))
+  store_skewed lit bytes (Err storing.Dark) blocks' lit' s =
       (skewed_within, s.1, λ off. ap (skewed k) (s.2 off), (s.3.0, ap (skewed k) s.3.1 ∙ left_skewed s.3.0 bytes))
-  store_skewed lit bytes storing.Done blocks' lit' s = (skewed_within, s.1, s.2, ap (skewed k) s.3 ∙ skewed_set (Block.readable bytes))
+  store_skewed lit bytes (Ok _) blocks' lit' s = (skewed_within, s.1, s.2, ap (skewed k) s.3 ∙ skewed_set (Block.readable bytes))

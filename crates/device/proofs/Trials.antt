@@ -1,15 +1,15 @@
 -- What a change of one block or one mark does to the blocks seen through the marks.
-use Rattle.std.proofs.Common.{◌≡◌, ℕ, zero, suc, ◌<◌, Bool, true, cond, eqb, List, [], ◌∷◌, length, get_or, set, vec_items, vec_len, refl, ap, ◌∙◌, arith}
+use Rattle.std.proofs.Common.{◌≡◌, ℕ, zero, suc, ◌<◌, Bool, true, cond, eqb, List, [], ◌∷◌, length, Ok, Err, Result, get_or, set, vec_items, vec_len, refl, ap, ◌∙◌, arith}
 use Rattle.std.proofs.lemmas.Bool.{true≢false, ne_eqb, eq-eqb}
 use Rattle.device.specs.Blocks.{Block, block_at, Reads, Stores}
 use Rattle.device.specs.ImageLaws.{image_size}
 use Rattle.device.specs.Images.{image_blocks, overwritten, Overwrites}
 use Rattle.device.specs.TrialLaws.{masked_size, masked_at}
 use Rattle.device.specs.Trials.{masked, trial_blocks}
-use Rattle.device.specs.declared.answers.Reading.{Reading}
-use Rattle.device.specs.declared.answers.Reading.TheVariants as reading
-use Rattle.device.specs.declared.answers.Storing.{Storing}
-use Rattle.device.specs.declared.answers.Storing.TheVariants as storing
+use Rattle.device.specs.declared.answers.ReadError.{ReadError}
+use Rattle.device.specs.declared.answers.ReadError.TheVariants as reading
+use Rattle.device.specs.declared.answers.StoreError.{StoreError}
+use Rattle.device.specs.declared.answers.StoreError.TheVariants as storing
 use Rattle.device.specs.declared.trial.Trial.{Trial}
 
 pub masked_put : (blocks : List Block) (marks : List ℕ) (b : ℕ) (x : Block) → masked (set blocks b x) (set marks b 0) ≡ set (masked blocks marks) b x
@@ -36,15 +36,15 @@ module _ (t : Trial) (b : ℕ) (within : b < length (trial_blocks t)) where
   has_block = let size = masked_size (image_blocks (vec_items t.image.bytes)) (vec_items t.marks) in omega arith
 
 -- a store on the image within its size is done
-pub stored_below : (blocks : List Block) (b : ℕ) (bytes : List ℕ) (r : Storing) (blocks' : List Block) → b < length blocks → Stores blocks true b bytes r blocks' true → blocks' ≡ set blocks b (Block.readable bytes)
-stored_below blocks b bytes storing.Outside blocks' h s = absurd (omega arith)
-stored_below blocks b bytes storing.Dark blocks' h s = absurd (true≢false s.1)
-stored_below blocks b bytes storing.Done blocks' h s = s.3
+pub stored_below : (blocks : List Block) (b : ℕ) (bytes : List ℕ) (r : Result (Unit {0}) StoreError) (blocks' : List Block) → b < length blocks → Stores blocks true b bytes r blocks' true → blocks' ≡ set blocks b (Block.readable bytes)
+stored_below blocks b bytes (Err storing.Outside) blocks' h s = absurd (omega arith)
+stored_below blocks b bytes (Err storing.Dark) blocks' h s = absurd (true≢false s.1)
+stored_below blocks b bytes (Ok _) blocks' h s = s.3
 
-pub overwrites_done : (bytes : List ℕ) (b : ℕ) (new : List ℕ) (r : Storing) (bytes' : List ℕ) → b < length (image_blocks bytes) → Overwrites bytes b new r bytes' → bytes' ≡ overwritten bytes b new
-overwrites_done bytes b new storing.Outside bytes' h s = absurd (omega (arith, image_size bytes))
-overwrites_done bytes b new storing.Dark bytes' h s = absurd s
-overwrites_done bytes b new storing.Done bytes' h s = s.1
+pub overwrites_done : (bytes : List ℕ) (b : ℕ) (new : List ℕ) (r : Result (Unit {0}) StoreError) (bytes' : List ℕ) → b < length (image_blocks bytes) → Overwrites bytes b new r bytes' → bytes' ≡ overwritten bytes b new
+overwrites_done bytes b new (Err storing.Outside) bytes' h s = absurd (omega (arith, image_size bytes))
+overwrites_done bytes b new (Err storing.Dark) bytes' h s = absurd s
+overwrites_done bytes b new (Ok _) bytes' h s = s.1
 
 module _ (blocks : List Block) (marks : List ℕ) (b : ℕ) (within : b < length (masked blocks marks)) where
   marked_within : b < length marks
@@ -59,8 +59,8 @@ module _ (blocks : List Block) (marks : List ℕ) (b : ℕ) (within : b < length
   showing e = masked_at blocks marks b marked_within ∙ ap (λ t. cond t (block_at blocks b) Block.unreadable) (eq-eqb (get_or marks b 0) 0 e)
 
   -- a read of the lit image, where the mark is 0, is a read of the lit drive
-  pub read_through : (lit : Bool) (r : Reading) (old new : List ℕ) → lit ≡ true → get_or marks b 0 ≡ 0 → Reads blocks true b r old new → Reads (masked blocks marks) lit b r old new
-  read_through lit reading.Outside old new on e s = absurd (omega (arith, masked_size blocks marks))
-  read_through lit reading.Dark old new on e s = absurd (true≢false s.1)
-  read_through lit reading.Unreadable old new on e s = (within, on, showing e ∙ s.2, s.3)
-  read_through lit reading.Done old new on e s = (within, on, showing e ∙ s.2)
+  pub read_through : (lit : Bool) (r : Result (Unit {0}) ReadError) (old new : List ℕ) → lit ≡ true → get_or marks b 0 ≡ 0 → Reads blocks true b r old new → Reads (masked blocks marks) lit b r old new
+  read_through lit (Err reading.Outside) old new on e s = absurd (omega (arith, masked_size blocks marks))
+  read_through lit (Err reading.Dark) old new on e s = absurd (true≢false s.1)
+  read_through lit (Err reading.Unreadable) old new on e s = (within, on, showing e ∙ s.2, s.3)
+  read_through lit (Ok _) old new on e s = (within, on, showing e ∙ s.2)

@@ -5,11 +5,11 @@
 --   left_by   the blocks that a cut store leaves, by the manner of the cut
 --   Reads     what a read answers, and the buffer after it
 --   Stores    what a store answers, and the device after it
-use Rattle.std.specs.Prelude.{◌≡◌, ℕ, ◌<◌, ◌≤◌, Bool, true, false, List, length, slice_index_or, slice_set}
-use Rattle.device.specs.declared.answers.Reading.{Reading}
-use Rattle.device.specs.declared.answers.Reading.TheVariants as reading
-use Rattle.device.specs.declared.answers.Storing.{Storing}
-use Rattle.device.specs.declared.answers.Storing.TheVariants as storing
+use Rattle.std.specs.Prelude.{◌≡◌, ℕ, ◌<◌, ◌≤◌, Bool, true, false, List, length, Ok, Err, Result, slice_index_or, slice_set}
+use Rattle.device.specs.declared.answers.ReadError.{ReadError}
+use Rattle.device.specs.declared.answers.ReadError.TheVariants as reading
+use Rattle.device.specs.declared.answers.StoreError.{StoreError}
+use Rattle.device.specs.declared.answers.StoreError.TheVariants as storing
 use Rattle.device.specs.declared.answers.Manner.{Manner}
 use Rattle.device.specs.declared.answers.Manner.TheVariants as manner
 
@@ -30,19 +30,19 @@ left_by manner.New blocks b bytes = slice_set blocks b (Block.readable bytes)
 left_by manner.Unreadable blocks b bytes = slice_set blocks b Block.unreadable
 
 -- a read at b of a device with these blocks, lit or not; the buffer before and after it
-abbrev pub Reads : List Block → Bool → ℕ → Reading → List ℕ → List ℕ → Type 0
-Reads blocks lit b reading.Outside old new = (length blocks ≤ b) × (new ≡ old)
-Reads blocks lit b reading.Dark old new = (b < length blocks) × (lit ≡ false) × (new ≡ old)
-Reads blocks lit b reading.Unreadable old new =
+abbrev pub Reads : List Block → Bool → ℕ → Result (Unit {0}) ReadError → List ℕ → List ℕ → Type 0
+Reads blocks lit b (Err reading.Outside) old new = (length blocks ≤ b) × (new ≡ old)
+Reads blocks lit b (Err reading.Dark) old new = (b < length blocks) × (lit ≡ false) × (new ≡ old)
+Reads blocks lit b (Err reading.Unreadable) old new =
     (b < length blocks) × (lit ≡ true) × (block_at blocks b ≡ Block.unreadable) × (new ≡ old)
-Reads blocks lit b reading.Done old new =
+Reads blocks lit b (Ok _) old new =
     (b < length blocks) × (lit ≡ true) × (block_at blocks b ≡ Block.readable new)
 
 -- a store of `bytes` at b; blocks and lit before it, the answer, blocks and lit after it
-abbrev pub Stores : List Block → Bool → ℕ → List ℕ → Storing → List Block → Bool → Type 0
-Stores blocks lit b bytes storing.Outside blocks' lit' = (length blocks ≤ b) × (blocks' ≡ blocks) × (lit' ≡ lit)
-Stores blocks lit b bytes storing.Dark blocks' lit' =
+abbrev pub Stores : List Block → Bool → ℕ → List ℕ → Result (Unit {0}) StoreError → List Block → Bool → Type 0
+Stores blocks lit b bytes (Err storing.Outside) blocks' lit' = (length blocks ≤ b) × (blocks' ≡ blocks) × (lit' ≡ lit)
+Stores blocks lit b bytes (Err storing.Dark) blocks' lit' =
     (b < length blocks) × (lit' ≡ false) × (lit ≡ false → blocks' ≡ blocks)
     × ((m : Manner) × (blocks' ≡ left_by m blocks b bytes))
-Stores blocks lit b bytes storing.Done blocks' lit' =
+Stores blocks lit b bytes (Ok _) blocks' lit' =
     (b < length blocks) × (lit ≡ true) × (lit' ≡ true) × (blocks' ≡ slice_set blocks b (Block.readable bytes))

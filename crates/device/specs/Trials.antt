@@ -4,11 +4,11 @@
 --   armed_cut     the cut that waits, or the one that never happens
 --   hit           whether the next store that passes the tests is the one to be cut
 --   Made, TrialStores, TrialLights   a new drive; exactly what a store does; what a light does
-use Rattle.std.specs.Prelude.{◌≡◌, ℕ, ◌+◌, ◌<◌, ◌≤◌, Bool, true, false, cond, List, [], ◌∷◌, length, vec_items, ◌==◌, nat_lt, slice_index_or, slice_set}
+use Rattle.std.specs.Prelude.{◌≡◌, ℕ, ◌+◌, ◌<◌, ◌≤◌, Bool, true, false, cond, List, [], ◌∷◌, length, Ok, Err, Result, vec_items, ◌==◌, nat_lt, slice_index_or, slice_set}
 use Rattle.device.specs.Blocks.{Block, left_by}
 use Rattle.device.specs.Images.{image_blocks, overwritten}
-use Rattle.device.specs.declared.answers.Storing.{Storing}
-use Rattle.device.specs.declared.answers.Storing.TheVariants as storing
+use Rattle.device.specs.declared.answers.StoreError.{StoreError}
+use Rattle.device.specs.declared.answers.StoreError.TheVariants as storing
 use Rattle.device.specs.declared.answers.Manner.{Manner}
 use Rattle.device.specs.declared.answers.Manner.TheVariants as manner
 use Rattle.device.specs.declared.cut.Cut.{Cut}
@@ -69,14 +69,14 @@ cut_contents manner.New held b bytes = filled held b bytes
 cut_contents manner.Unreadable held b bytes = (held.0, slice_set held.1 b 1)
 
 -- exactly what a store of `bytes` at b answers and leaves
-pub record TrialStores (t : Trial) (b : ℕ) (bytes : List ℕ) (r : Storing) (t' : Trial) : Type 0 where
-  pub outside : length (trial_blocks t) ≤ b → (r ≡ storing.Outside) × (t' ≡ t)
-  pub dark : b < length (trial_blocks t) → t.lit ≡ false → (r ≡ storing.Dark) × (t' ≡ t)
+pub record TrialStores (t : Trial) (b : ℕ) (bytes : List ℕ) (r : Result (Unit {0}) StoreError) (t' : Trial) : Type 0 where
+  pub outside : length (trial_blocks t) ≤ b → (r ≡ Err storing.Outside) × (t' ≡ t)
+  pub dark : b < length (trial_blocks t) → t.lit ≡ false → (r ≡ Err storing.Dark) × (t' ≡ t)
   pub cut : b < length (trial_blocks t) → t.lit ≡ true → hit t ≡ true →
-      (r ≡ storing.Dark) × (trial_blocks t' ≡ left_by (armed_cut t).manner (trial_blocks t) b bytes)
+      (r ≡ Err storing.Dark) × (trial_blocks t' ≡ left_by (armed_cut t).manner (trial_blocks t) b bytes)
       × (contents t' ≡ cut_contents (armed_cut t).manner (contents t) b bytes) × Others t (count_on t) false t'
   pub done : b < length (trial_blocks t) → t.lit ≡ true → hit t ≡ false →
-      (r ≡ storing.Done) × (trial_blocks t' ≡ slice_set (trial_blocks t) b (Block.readable bytes))
+      (r ≡ Ok tt) × (trial_blocks t' ≡ slice_set (trial_blocks t) b (Block.readable bytes))
       × (contents t' ≡ filled (contents t) b bytes) × Others t (count_on t) true t'
 
 -- a light: no block changes, the next cut is armed, or none, and stores are counted afresh
@@ -92,7 +92,7 @@ pub record TrialLights (t t' : Trial) : Type 0 where
 pub data DoneInARow : Trial → ℕ → Trial → Type 0 where
   none : {t : Trial} → DoneInARow t 0 t
   more : {t u v : Trial} {j b : ℕ} {bytes : List ℕ} → DoneInARow t j u → b < length (trial_blocks u) → u.lit ≡ true →
-      TrialStores u b bytes storing.Done v → DoneInARow t (j + 1) v
+      TrialStores u b bytes (Ok tt) v → DoneInARow t (j + 1) v
 
 -- counting from a light, the store that is cut is the one that bears the armed cut's number, and no other
 abbrev pub NumberedStoreIsCut : Type 0

@@ -1,9 +1,9 @@
 // The interface that every drive has.
-ghost use Rattle.std.specs.Prelude.{◌≡◌, ℕ, Bool, true, List, length};
-ghost use Rattle.device.specs.declared.answers.Storing.{Storing};
+ghost use Rattle.std.specs.Prelude.{◌≡◌, ℕ, Bool, true, List, length, Result};
+ghost use Rattle.device.specs.declared.answers.StoreError.{StoreError};
 ghost use Rattle.device.specs.Blocks.{Block, Whole, Reads, Stores};
 
-use crate::answers::{Reading, Storing};
+use crate::answers::{ReadError, StoreError};
 
 /// A drive of blocks of 512 bytes. It is lit or dark, and each block is readable or not.
 pub trait Device {
@@ -18,7 +18,7 @@ pub trait Device {
 
     // What a store does, and what a light does, beyond what every device owes: which stores a drive
     // counts, say. A layer above hands each call on once, so these are the same through it.
-    ghost puts: { Self → ℕ → List ℕ → Storing → Self → Type 0 };
+    ghost puts: { Self → ℕ → List ℕ → Result (Unit {0}) StoreError → Self → Type 0 };
 
     ghost lights: { Self → Self → Type 0 };
 
@@ -27,11 +27,11 @@ pub trait Device {
         ensures { result ≡ length (blocks self.now) };
 
     /// Reads block `b` into the buffer.
-    fn read(&self, b: usize, buffer: &mut [u8; 512]) -> Reading
+    fn read(&self, b: usize, buffer: &mut [u8; 512]) -> Result<(), ReadError>
         ensures { Reads (blocks self.now) (lit self.now) b result buffer.old buffer.new };
 
     /// Stores the bytes at block `b`.
-    fn store(&mut self, b: usize, bytes: &[u8; 512]) -> Storing
+    fn store(&mut self, b: usize, bytes: &[u8; 512]) -> Result<(), StoreError>
         ensures stores { Stores (blocks self.old) (lit self.old) b bytes.now result (blocks self.new) (lit self.new) }
         ensures exact { puts self.old b bytes.now result self.new };
 

@@ -2,6 +2,7 @@
 ghost use Rattle.std.specs.Prelude.{◌≡◌, ℕ, ◌≤◌, MatchResult};
 ghost use Rattle.device.specs.Skews.{Allowed, place, Permutes};
 
+use std::error::Error;
 use std::fmt;
 
 /// Why a number is no factor.
@@ -13,6 +14,7 @@ pub enum FactorRefusal {
 
 impl FactorRefusal {
     /// The refusal's number.
+    // By name, since `u8::from` would not say what the number is.
     pub fn number(self) -> u8
         ensures { result ≡ 9 }
     {
@@ -33,6 +35,8 @@ impl fmt::Display for FactorRefusal {
     }
 }
 
+impl Error for FactorRefusal {}
+
 /// An odd number from 1 to 31. Multiplied by it, modulo 32, the sectors of a cylinder are permuted.
 #[derive(Clone, Copy, Debug)]
 pub struct Factor {
@@ -40,18 +44,22 @@ pub struct Factor {
     ghost allowed: { Allowed k },
 }
 
-impl Factor {
+impl TryFrom<u32> for Factor {
+    type Error = FactorRefusal;
+
+    ghost try_from_gives = { λ k r. MatchResult r (λ f. (f.k ≡ k) × Allowed k) (λ _. Allowed k → ⊥) };
+
     /// The number as a factor, if it is odd and at most 31.
-    pub fn new(k: u32) -> Result<Factor, FactorRefusal>
-        ensures { MatchResult result (λ f. (f.k ≡ k) × Allowed k) (λ _. Allowed k → ⊥) }
-    {
+    fn try_from(k: u32) -> Result<Self, FactorRefusal> {
         if k % 2 == 1 && k <= 31 {
             Ok(Factor { k: k as usize })
         } else {
             Err(FactorRefusal::Range)
         }
     }
+}
 
+impl Factor {
     /// Where block `b` is found: in its own cylinder, at sector `k × s mod 32`.
     pub fn place(self, b: usize) -> usize
         ensures value { result ≡ place self.k b }

@@ -4,7 +4,7 @@ ghost use Rattle.device.specs.Blocks.{Stores};
 ghost use Rattle.device.specs.Images.{image_blocks, Overwrites};
 ghost use Rattle.device.specs.ImageLaws.{image_whole};
 
-use crate::answers::{Reading, Storing};
+use crate::answers::{ReadError, StoreError};
 use crate::device::Device;
 
 /// A drive over bytes that the caller hands over and can have back. Every whole run of 512 bytes
@@ -49,25 +49,25 @@ impl Device for Image {
         self.bytes.len() / 512
     }
 
-    fn read(&self, b: usize, buffer: &mut [u8; 512]) -> Reading {
+    fn read(&self, b: usize, buffer: &mut [u8; 512]) -> Result<(), ReadError> {
         if b >= self.size() {
-            return Reading::Outside;
+            return Err(ReadError::Outside);
         }
         let at = 512 * b;
         buffer.copy_from_slice(&self.bytes[at..at + 512]);
-        Reading::Done
+        Ok(())
     }
 
-    fn store(&mut self, b: usize, bytes: &[u8; 512]) -> Storing
+    fn store(&mut self, b: usize, bytes: &[u8; 512]) -> Result<(), StoreError>
         ensures stores { Stores (image_blocks self.old.bytes.items) true b bytes.now result (image_blocks self.new.bytes.items) true }
         ensures exact { Overwrites self.old.bytes.items b bytes.now result self.new.bytes.items }
     {
         if b >= self.size() {
-            return Storing::Outside;
+            return Err(StoreError::Outside);
         }
         let at = 512 * b;
         self.bytes[at..at + 512].copy_from_slice(bytes);
-        Storing::Done
+        Ok(())
     }
 
     fn light(&mut self)

@@ -3,7 +3,7 @@ ghost use Rattle.std.specs.Prelude.{◌≡◌};
 ghost use Rattle.device.specs.SkewLaws.{skewed_whole};
 ghost use Rattle.device.specs.Skews.{skewed, SkewStores, SkewExamples};
 
-use crate::answers::{Reading, Storing};
+use crate::answers::{ReadError, StoreError};
 use crate::device::Device;
 use crate::factor::Factor;
 
@@ -48,16 +48,16 @@ impl<D: Device> Device for Skew<D> {
         32 * (self.device.size() / 32)
     }
 
-    fn read(&self, b: usize, buffer: &mut [u8; 512]) -> Reading {
+    fn read(&self, b: usize, buffer: &mut [u8; 512]) -> Result<(), ReadError> {
         if b >= self.size() {
-            return Reading::Outside;
+            return Err(ReadError::Outside);
         }
         self.device.read(self.factor.place(b), buffer)
     }
 
-    fn store(&mut self, b: usize, bytes: &[u8; 512]) -> Storing {
+    fn store(&mut self, b: usize, bytes: &[u8; 512]) -> Result<(), StoreError> {
         if b >= self.size() {
-            return Storing::Outside;
+            return Err(StoreError::Outside);
         }
         let at = self.factor.place(b);
         self.device.store(at, bytes)

@@ -7,7 +7,7 @@ ghost use Rattle.device.specs.Images.{image_blocks};
 ghost use Rattle.device.specs.ImageLaws.{image_whole};
 ghost use Rattle.device.specs.TrialLaws.{masked_whole};
 
-use crate::answers::{Manner, Reading, Storing};
+use crate::answers::{Manner, ReadError, StoreError};
 use crate::cut::Cut;
 use crate::device::Device;
 use crate::image::Image;
@@ -17,6 +17,7 @@ use crate::image::Image;
 /// last, and counts afresh the stores that pass the tests.
 #[derive(Drop)]
 pub struct Trial {
+    // bytes and marks are handed in and taken back as two lists, of lengths that need not agree
     image: Image,
     marks: Vec<u8>,
     cuts: [Cut; 8],
@@ -48,25 +49,18 @@ impl Trial {
         ensures bytes { result.0.items ≡ self.image.bytes.items }
         ensures marks { result.1.items ≡ self.marks.items }
     {
-        let Trial {
-            image,
-            marks,
-            cuts: _,
-            armed: _,
-            stored: _,
-            lit: _,
-        } = self;
+        let Trial { image, marks, .. } = self;
         (image.into_bytes(), marks)
     }
 
     /// Block `b` as it stands, whether the drive is lit or dark: the answer is that of a lit drive.
-    pub fn peek(&self, b: usize, buffer: &mut [u8; 512]) -> Reading
+    pub fn peek(&self, b: usize, buffer: &mut [u8; 512]) -> Result<(), ReadError>
         ensures { Reads (trial_blocks self.now) true b result buffer.old buffer.new }
     {
         if b >= self.size() {
-            Reading::Outside
+            Err(ReadError::Outside)
         } else if self.marks[b] != 0 {
-            Reading::Unreadable
+            Err(ReadError::Unreadable)
         } else {
             self.image.read(b, buffer)
         }
@@ -76,10 +70,7 @@ impl Trial {
     fn cut(&self) -> Cut
         ensures { result ≡ armed_cut self.now }
     {
-        match self.cuts.get(self.armed) {
-            Some(cut) => *cut,
-            None => Cut::NEVER,
-        }
+        self.cuts.get(self.armed).copied().unwrap_or(Cut::NEVER)
     }
 
     // Counts a store that has passed the tests, and says whether it is the one to be cut.
@@ -133,30 +124,30 @@ impl Device for Trial {
         self.image.size().min(self.marks.len())
     }
 
-    fn read(&self, b: usize, buffer: &mut [u8; 512]) -> Reading {
+    fn read(&self, b: usize, buffer: &mut [u8; 512]) -> Result<(), ReadError> {
         if b >= self.size() {
-            return Reading::Outside;
+            return Err(ReadError::Outside);
         }
         if !self.lit {
-            return Reading::Dark;
+            return Err(ReadError::Dark);
         }
         self.peek(b, buffer)
     }
 
-    fn store(&mut self, b: usize, bytes: &[u8; 512]) -> Storing
+    fn store(&mut self, b: usize, bytes: &[u8; 512]) -> Result<(), StoreError>
         ensures stores { Stores (trial_blocks self.old) self.old.lit b bytes.now result (trial_blocks self.new) self.new.lit }
         ensures exact { TrialStores self.old b bytes.now result self.new }
     {
         if b >= self.size() {
-            return Storing::Outside;
+            return Err(StoreError::Outside);
         }
         if !self.lit {
-            return Storing::Dark;
+            return Err(StoreError::Dark);
         }
         let manner = self.cut().manner;
         if !self.count() {
             self.put(b, bytes);
-            return Storing::Done;
+            return Ok(());
         }
         self.lit = false;
         match manner {
@@ -164,7 +155,7 @@ impl Device for Trial {
             Manner::New => self.put(b, bytes),
             Manner::Unreadable => self.lose(b),
         }
-        Storing::Dark
+        Err(StoreError::Dark)
     }
 
     fn light(&mut self)

@@ -3,8 +3,9 @@
 
 #[cfg(test)]
 mod tests {
-    use device::{Cut, Device, Factor, Image, Manner, Reading, Skew, Storing, Trial};
+    use device::{Cut, Device, Factor, Image, Manner, ReadError, Skew, StoreError, Trial};
     use std::alloc::{AllocError, Global};
+    use std::array;
     use std::test::Fail;
 
     // A cut that leaves its block as it was.
@@ -17,11 +18,7 @@ mod tests {
 
     // Such a cut at store 1, the next at store 2, and so on.
     fn in_turn() -> [Cut; 8] {
-        let mut cuts = [Cut::NEVER; 8];
-        for n in 0..8u8 {
-            cuts[usize::from(n)] = old(1 + u32::from(n));
-        }
-        cuts
+        array::from_fn(|n| old(1 + n as u32))
     }
 
     // A lit drive of n readable blocks of zeros.
@@ -41,55 +38,46 @@ mod tests {
     // Whether block b can be read and every byte of it is x.
     fn holds<D: Device>(drive: &D, b: usize, x: u8) -> bool {
         let mut buffer = [!x; 512];
-        matches!(drive.read(b, &mut buffer), Reading::Done) && buffer == [x; 512]
+        drive.read(b, &mut buffer).is_ok() && buffer == [x; 512]
     }
 
-    // What a read answers, if it leaves the buffer as it was.
-    fn unread<D: Device>(drive: &D, b: usize) -> Option<Reading> {
+    // Why a read is not done, if it leaves the buffer as it was.
+    fn unread<D: Device>(drive: &D, b: usize) -> Option<ReadError> {
         let mut buffer = [170; 512];
-        let answer = drive.read(b, &mut buffer);
-        if buffer == [170; 512] {
-            Some(answer)
-        } else {
-            None
-        }
+        let refusal = drive.read(b, &mut buffer).err();
+        if buffer == [170; 512] { refusal } else { None }
     }
 
     // Whether a store of a block of x is done.
     fn done<D: Device>(drive: &mut D, b: usize, x: u8) -> bool {
-        matches!(drive.store(b, &[x; 512]), Storing::Done)
+        drive.store(b, &[x; 512]).is_ok()
     }
 
     // Whether it finds the drive dark or leaves it so.
     fn dark<D: Device>(drive: &mut D, b: usize, x: u8) -> bool {
-        matches!(drive.store(b, &[x; 512]), Storing::Dark)
+        drive.store(b, &[x; 512]) == Err(StoreError::Dark)
     }
 
     // Whether a read and a store at b answer that it is outside.
     fn outside<D: Device>(drive: &mut D, b: usize) -> bool {
-        matches!(unread(drive, b), Some(Reading::Outside))
-            && matches!(drive.store(b, &[1; 512]), Storing::Outside)
+        unread(drive, b) == Some(ReadError::Outside)
+            && drive.store(b, &[1; 512]) == Err(StoreError::Outside)
     }
 
-    // The number of the first of 20 stores at block 0 that is not done, or 0.
-    fn first_cut<D: Device>(drive: &mut D) -> u32 {
-        for n in 1..21 {
-            if !done(drive, 0, 1) {
-                return n;
-            }
-        }
-        0
+    // The number of the first of 20 stores at block 0 that is not done.
+    fn first_cut<D: Device>(drive: &mut D) -> Option<u32> {
+        (1..21).find(|_| !done(drive, 0, 1))
     }
 
     // Whether the cuts of `in_turn` come one after each light, and none after the last.
     fn cut_in_turn<D: Device>(drive: &mut D) -> bool {
         for n in 1..9 {
-            if first_cut(drive) != n {
+            if first_cut(drive) != Some(n) {
                 return false;
             }
             drive.light();
         }
-        first_cut(drive) == 0
+        first_cut(drive).is_none()
     }
 
     #[test]
@@ -100,7 +88,9 @@ mod tests {
 
     #[test]
     fn light_through_a_skew_arms_one_cut(rt: HostRuntime) -> Result<(), Fail> {
-        assert!(rt; cut_in_turn(&mut Skew::new(trial(rt.alloc(), 32, in_turn())?, factor(7)?)));
+        assert!(rt;
+            cut_in_turn(&mut Skew::new(trial(rt.alloc(), 32, in_turn())?, Factor::try_from(7)?))
+        );
         Ok(())
     }
 
@@ -109,14 +99,14 @@ mod tests {
         let mut drive = trial(rt.alloc(), 1, in_turn())?;
         drive.light();
         drive.light();
-        assert_eq!(rt; first_cut(&mut drive), 3);
+        assert_eq!(rt; first_cut(&mut drive), Some(3));
         Ok(())
     }
 
     #[test]
     fn number_that_is_not_reached_never_cuts(rt: HostRuntime) -> Result<(), Fail> {
         for at in [0, 21, u32::MAX] {
-            assert_eq!(rt; first_cut(&mut trial_of_one(rt.alloc(), old(at))?), 0);
+            assert_eq!(rt; first_cut(&mut trial_of_one(rt.alloc(), old(at))?), None);
         }
         Ok(())
     }
@@ -133,7 +123,7 @@ mod tests {
             drive.light();
             let leaves = match left {
                 Some(x) => holds(&drive, 0, x),
-                None => matches!(unread(&drive, 0), Some(Reading::Unreadable)),
+                None => unread(&drive, 0) == Some(ReadError::Unreadable),
             };
             assert!(rt; leaves && holds(&drive, 1, 5));
         }
@@ -145,7 +135,7 @@ mod tests {
         let mut drive = trial_of_one(rt.alloc(), old(2))?;
         assert!(rt; done(&mut drive, 0, 1) && dark(&mut drive, 1, 2));
         assert!(rt; dark(&mut drive, 0, 3) && dark(&mut drive, 1, 3) && outside(&mut drive, 2));
-        assert!(rt; matches!(unread(&drive, 0), Some(Reading::Dark)));
+        assert!(rt; unread(&drive, 0) == Some(ReadError::Dark));
         drive.light();
         assert!(rt; holds(&drive, 0, 1) && holds(&drive, 1, 0) && done(&mut drive, 1, 3));
         Ok(())
@@ -157,7 +147,7 @@ mod tests {
             let marks = vec![in rt.alloc(); 0u8, mark]?;
             let mut drive = Trial::new(vec![in rt.alloc(); 3u8; 1024]?, marks, in_turn());
             drive.light();
-            assert!(rt; matches!(unread(&drive, 1), Some(Reading::Unreadable)));
+            assert!(rt; unread(&drive, 1) == Some(ReadError::Unreadable));
             assert!(rt; done(&mut drive, 1, 4) && holds(&drive, 0, 3) && holds(&drive, 1, 4));
             let (bytes, marks) = drive.into_parts();
             assert_eq!(rt;
@@ -199,13 +189,6 @@ mod tests {
         Ok(())
     }
 
-    fn factor(k: u32) -> Result<Factor, Fail> {
-        match Factor::new(k) {
-            Ok(factor) => Ok(factor),
-            Err(refusal) => Err(Fail::new(refusal)),
-        }
-    }
-
     // Whether every block that is stored through the skew stands at its place below. The drive has
     // 70 blocks of zeros, of which the skew has 64.
     fn placed<D: Device + Drop>(drive: D, factor: Factor) -> bool {
@@ -227,7 +210,7 @@ mod tests {
 
     #[test]
     fn skew_stores_each_block_at_its_place(rt: HostRuntime) -> Result<(), Fail> {
-        let factor = factor(7)?;
+        let factor = Factor::try_from(7)?;
         for (b, at) in [(0, 0), (1, 7), (5, 3), (31, 25), (37, 35), (63, 57)] {
             assert_eq!(rt; factor.place(b), at);
         }
@@ -239,10 +222,10 @@ mod tests {
     #[test]
     fn factor_is_odd_and_at_most_31(rt: HostRuntime) -> Result<(), Fail> {
         for k in [1, 7, 31] {
-            assert!(rt; Factor::new(k).is_ok());
+            assert!(rt; Factor::try_from(k).is_ok());
         }
         for k in [0, 8, 32, 33, u32::MAX] {
-            match Factor::new(k) {
+            match Factor::try_from(k) {
                 Ok(_) => return Err(Fail::new(k)),
                 Err(refusal) => {
                     let text = format!(in rt.alloc(); "{}: {refusal}", refusal.number())?;

@@ -6,103 +6,80 @@ mod print;
 mod session;
 mod words;
 
-use device::Reading;
-use parse::{Line, parse};
-use print::{print_answer, print_block, verb};
+use parse::{Line, LineError, parse};
+use print::{Answered, verb};
 use session::Session;
-use std::io;
 use std::io::Read;
-use store::Answer;
-use words::{lines, word};
 
 /// What is to be printed once the calls so far are played.
 #[derive(Clone, Copy)]
 enum Due {
     /// The line of this number was not understood.
-    Unknown(usize),
+    NotUnderstood(usize),
     /// The answer of a call.
-    Call(&'static str),
+    Answer(&'static str),
 }
 
-// Plays what is pending and prints it.
-fn flush(rt: &HostRuntime, session: &mut Session, due: &mut Vec<Due>) -> anyhow::Result<()> {
-    let mut log: Vec<Answer> = Vec::new(rt.alloc());
-    if session.has_drive() {
-        session.play(&mut log, rt.alloc())?;
-    }
-    let mut next = 0usize;
-    for line in due.iter() {
-        match line {
-            Due::Unknown(number) => println!(rt; "line {number}: not understood")?,
-            Due::Call(verb) => {
-                if let Some(answer) = log.get(next) {
-                    print_answer(rt, verb, answer)?;
+/// A script under way, and what is to be printed of it.
+#[derive(Drop)]
+struct Script {
+    session: Session,
+    due: Vec<Due>,
+}
+
+impl Script {
+    // Plays what is pending and prints it.
+    fn flush(&mut self, rt: &HostRuntime) -> anyhow::Result<()> {
+        let log = self.session.play(rt.alloc())?;
+        let mut answers = log.iter();
+        for line in self.due.iter() {
+            match line {
+                Due::NotUnderstood(number) => println!(rt; "line {number}: not understood")?,
+                Due::Answer(verb) => {
+                    if let Some(answer) = answers.next() {
+                        println!(rt; "{}", Answered { verb, answer })?;
+                    }
                 }
-                next = next.saturating_add(1);
+            }
+        }
+        self.due.clear();
+        Ok(())
+    }
+
+    // One line of the script.
+    fn take(&mut self, rt: &HostRuntime, line: &[u8]) -> Result<(), LineError> {
+        match parse(rt.alloc(), line)? {
+            Line::Empty => Ok(()),
+            Line::Drive(size) => self.session.drive(size, rt.alloc()),
+            Line::Cut(cut) => self.session.cut(cut),
+            Line::Dump(block) => {
+                self.flush(rt).map_err(LineError::Failed)?;
+                let look = self.session.look(block)?;
+                Ok(print!(rt; "{look}")?)
+            }
+            Line::Call(call) => {
+                let verb = verb(&call);
+                self.session.call(call, rt.alloc())?;
+                Ok(self.due.push(Due::Answer(verb))?)
             }
         }
     }
-    due.clear();
-    Ok(())
-}
-
-fn dump(rt: &HostRuntime, session: &Session, block: u64) -> io::Result<()> {
-    let mut bytes = [0; 512];
-    match session.block(block, &mut bytes) {
-        Reading::Done => print_block(rt, &bytes),
-        Reading::Outside => println!(rt; "dump: refused 9"),
-        _ => println!(rt; "unreadable"),
-    }
-}
-
-// One line of the script: whether it was understood.
-fn take(
-    rt: &HostRuntime,
-    session: &mut Session,
-    due: &mut Vec<Due>,
-    line: Line,
-) -> anyhow::Result<bool> {
-    match line {
-        Line::Empty => Ok(true),
-        Line::Unknown => Ok(false),
-        Line::Drive(size) => Ok(session.drive(size)),
-        Line::Cut(cut) => Ok(session.cut(cut)),
-        Line::Dump(block) => {
-            if !session.has_drive() {
-                return Ok(false);
-            }
-            flush(rt, session, due)?;
-            dump(rt, session, block)?;
-            Ok(true)
-        }
-        Line::Call(call) => {
-            let verb = verb(&call);
-            let taken = session.call(call)?;
-            if taken {
-                due.push(Due::Call(verb))?;
-            }
-            Ok(taken)
-        }
-    }
-}
-
-fn run(rt: &HostRuntime) -> anyhow::Result<()> {
-    let mut script: Vec<u8> = Vec::new(rt.alloc());
-    let _ = rt.stdin().read_to_end(&mut script)?;
-    let mut session = Session::new(rt.alloc());
-    let mut due: Vec<Due> = Vec::new(rt.alloc());
-    let lines = lines(rt.alloc(), script.as_slice())?;
-    let mut number = 0usize;
-    for span in lines.iter() {
-        number = number.saturating_add(1);
-        let line = parse(rt.alloc(), word(script.as_slice(), *span))?;
-        if !take(rt, &mut session, &mut due, line)? {
-            due.push(Due::Unknown(number))?;
-        }
-    }
-    flush(rt, &mut session, &mut due)
 }
 
 fn main(rt: HostRuntime) -> anyhow::Result<()> {
-    run(&rt)
+    let mut text = Vec::new(rt.alloc());
+    let _ = rt.stdin().read_to_end(&mut text)?;
+    let mut script = Script {
+        session: Session::NoDrive,
+        due: Vec::new(rt.alloc()),
+    };
+    // the empty line after the last line end says nothing
+    for (line, number) in text.split(|b| *b == b'\n').zip(1usize..) {
+        match script.take(&rt, line) {
+            Ok(()) => {}
+            Err(LineError::NotUnderstood) => script.due.push(Due::NotUnderstood(number))?,
+            Err(LineError::Failed(error)) => return Err(error),
+        }
+    }
+    script.flush(&rt)
 }

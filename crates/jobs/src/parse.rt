@@ -1,7 +1,8 @@
 // What a line of a script says.
-use crate::words::{Span, number, numbers, spans, word};
+use crate::words::{number, words};
 use device::{Cut, Manner};
-use std::alloc::{AllocError, Global};
+use std::alloc::Global;
+use std::error::Error;
 use store::{Call, Name};
 
 /// One line of a script.
@@ -17,8 +18,21 @@ pub enum Line {
     Call(Call),
     /// A look at a block.
     Dump(u64),
-    /// Nothing that is known.
-    Unknown,
+}
+
+/// Why a line was not taken.
+#[derive(Drop)]
+pub enum LineError {
+    /// It is none that is known, or it stands in the wrong place. The script goes on.
+    NotUnderstood,
+    /// Memory or output failed, which ends the script.
+    Failed(anyhow::Error),
+}
+
+impl<E: Error> From<E> for LineError {
+    fn from(error: E) -> LineError {
+        LineError::Failed(error.into())
+    }
 }
 
 fn manner(word: &[u8]) -> Option<Manner> {
@@ -31,135 +45,101 @@ fn manner(word: &[u8]) -> Option<Manner> {
 }
 
 // `cut K MANNER`
-fn cut(line: &[u8], spans: &[Span]) -> Option<Cut> {
-    match spans {
-        [_, at, how] => {
-            let at = u32::try_from(number(word(line, *at))?).ok()?;
-            let manner = manner(word(line, *how))?;
-            Some(Cut { at, manner })
-        }
-        _ => None,
-    }
-}
-
-fn name(tag: u64, root: u64) -> Name {
-    Name { tag, root }
-}
-
-// The staged words, if each is below 2^16.
-fn staged(heap: Global, numbers: &[u64]) -> Result<Option<Vec<u16>>, AllocError> {
-    let mut words = Vec::new(heap);
-    for n in numbers {
-        match u16::try_from(*n) {
-            Ok(w) => words.push(w)?,
-            Err(_) => return Ok(None),
-        }
-    }
-    Ok(Some(words))
+fn cut(at: &[u8], how: &[u8]) -> Option<Cut> {
+    Some(Cut {
+        at: u32::try_from(number(at)?).ok()?,
+        manner: manner(how)?,
+    })
 }
 
 // The calls on an index and on objects outside a transaction.
-fn index_call(verb: &[u8], n: &[u64]) -> Option<Call> {
-    match (verb, n) {
-        (b"create", [t, r, entry, kind, tag]) => Some(Call::Create {
-            index: name(*t, *r),
-            entry: *entry,
-            kind: *kind,
-            tag: u32::try_from(*tag).ok()?,
+fn index_call(verb: &[u8], numbers: &[u64]) -> Option<Call> {
+    match (verb, numbers) {
+        (b"format", &[tag]) => Some(Call::Format {
+            tag: u32::try_from(tag).ok()?,
         }),
-        (b"preserve", [t, r, entry, tag, root]) => Some(Call::Preserve {
-            index: name(*t, *r),
-            entry: *entry,
-            object: name(*tag, *root),
+        (b"create", &[tag, root, entry, kind, new]) => Some(Call::Create {
+            index: Name { tag, root },
+            entry,
+            kind,
+            tag: u32::try_from(new).ok()?,
         }),
-        (b"delete", [t, r, entry]) => Some(Call::Delete {
-            index: name(*t, *r),
-            entry: *entry,
+        (b"preserve", &[tag, root, entry, t, r]) => Some(Call::Preserve {
+            index: Name { tag, root },
+            entry,
+            object: Name { tag: t, root: r },
         }),
-        (b"retrieve", [t, r, entry]) => Some(Call::Retrieve {
-            index: name(*t, *r),
-            entry: *entry,
+        (b"delete", &[tag, root, entry]) => Some(Call::Delete {
+            index: Name { tag, root },
+            entry,
         }),
-        (b"read", [t, r, offset, length]) => Some(Call::Read {
-            object: name(*t, *r),
-            offset: *offset,
-            length: *length,
+        (b"retrieve", &[tag, root, entry]) => Some(Call::Retrieve {
+            index: Name { tag, root },
+            entry,
         }),
-        (b"format", [tag]) => Some(Call::Format {
-            tag: u32::try_from(*tag).ok()?,
+        (b"read", &[tag, root, offset, length]) => Some(Call::Read {
+            object: Name { tag, root },
+            offset,
+            length,
         }),
         _ => None,
     }
 }
 
 // The calls on a transaction, but stage.
-fn ticket_call(verb: &[u8], n: &[u64]) -> Option<Call> {
-    match (verb, n) {
-        (b"begin", [t, r]) => Some(Call::Begin {
-            object: name(*t, *r),
-        }),
-        (b"clear", [t, r, position]) => Some(Call::Clear {
-            ticket: name(*t, *r),
-            position: *position,
-        }),
-        (b"commit", [t, r]) => Some(Call::Commit {
-            ticket: name(*t, *r),
-        }),
-        (b"settle", [t, r]) => Some(Call::Settle {
-            ticket: name(*t, *r),
-        }),
-        (b"abandon", [t, r]) => Some(Call::Abandon {
-            ticket: name(*t, *r),
-        }),
+fn ticket_call(verb: &[u8], numbers: &[u64]) -> Option<Call> {
+    let &[tag, root, ref rest @ ..] = numbers else {
+        return None;
+    };
+    let ticket = Name { tag, root };
+    match (verb, rest) {
+        (b"begin", []) => Some(Call::Begin { object: ticket }),
+        (b"clear", &[position]) => Some(Call::Clear { ticket, position }),
+        (b"commit", []) => Some(Call::Commit { ticket }),
+        (b"settle", []) => Some(Call::Settle { ticket }),
+        (b"abandon", []) => Some(Call::Abandon { ticket }),
         _ => None,
     }
 }
 
-fn call(heap: Global, verb: &[u8], n: &[u64]) -> Result<Option<Call>, AllocError> {
-    if let (b"stage", [t, r, position, first, rest @ ..]) = (verb, n) {
-        return match staged(heap, rest)? {
-            Some(words) => Ok(Some(Call::Stage {
-                ticket: name(*t, *r),
-                position: *position,
-                first: *first,
-                words,
-            })),
-            None => Ok(None),
-        };
-    }
-    match index_call(verb, n) {
-        Some(call) => Ok(Some(call)),
-        None => Ok(ticket_call(verb, n)),
-    }
+// The words to be staged, if each is below 2^16.
+fn staged(heap: Global, numbers: &[u64]) -> Result<Vec<u16>, LineError> {
+    numbers
+        .iter()
+        .map(|n| u16::try_from(*n).map_err(|_| LineError::NotUnderstood))
+        .try_collect(heap)
 }
 
 // A line whose words after the first are numbers.
-fn numbered(heap: Global, verb: &[u8], n: &[u64]) -> Result<Line, AllocError> {
-    match (verb, n) {
-        (b"drive", [size]) => Ok(Line::Drive(*size)),
-        (b"dump", [block]) => Ok(Line::Dump(*block)),
-        _ => match call(heap, verb, n)? {
-            Some(call) => Ok(Line::Call(call)),
-            None => Ok(Line::Unknown),
-        },
+fn numbered(heap: Global, verb: &[u8], numbers: &[u64]) -> Result<Line, LineError> {
+    match (verb, numbers) {
+        (b"drive", &[size]) => Ok(Line::Drive(size)),
+        (b"dump", &[block]) => Ok(Line::Dump(block)),
+        (b"stage", &[tag, root, position, first, ref words @ ..]) => Ok(Line::Call(Call::Stage {
+            ticket: Name { tag, root },
+            position,
+            first,
+            words: staged(heap, words)?,
+        })),
+        _ => index_call(verb, numbers)
+            .or_else(|| ticket_call(verb, numbers))
+            .map(Line::Call)
+            .ok_or(LineError::NotUnderstood),
     }
 }
 
 /// What a line says.
-pub fn parse(heap: Global, line: &[u8]) -> Result<Line, AllocError> {
-    let spans = spans(heap, line)?;
-    let Some(first) = spans.first() else {
-        return Ok(Line::Empty);
-    };
-    let verb = word(line, *first);
-    if let b"cut" = verb {
-        return match cut(line, spans.as_slice()) {
-            Some(cut) => Ok(Line::Cut(cut)),
-            None => Ok(Line::Unknown),
-        };
-    }
-    match numbers(heap, line, spans.as_slice())? {
-        Some(n) => numbered(heap, verb, n.as_slice()),
-        None => Ok(Line::Unknown),
+pub fn parse(heap: Global, line: &[u8]) -> Result<Line, LineError> {
+    let words = words(heap, line)?;
+    match words.as_slice() {
+        [] => Ok(Line::Empty),
+        [b"cut", at, how] => cut(at, how).map(Line::Cut).ok_or(LineError::NotUnderstood),
+        [verb, rest @ ..] => {
+            let numbers: Vec<u64> = rest
+                .iter()
+                .map(|word| number(word).ok_or(LineError::NotUnderstood))
+                .try_collect(heap)?;
+            numbered(heap, verb, numbers.as_slice())
+        }
     }
 }

@@ -1,5 +1,5 @@
 // What is printed for a line of a script.
-use std::io;
+use std::fmt;
 use store::{Answer, Call};
 
 /// The word that a call begins with.
@@ -20,44 +20,64 @@ pub fn verb(call: &Call) -> &'static str {
     }
 }
 
-fn print_words(rt: &HostRuntime, verb: &str, words: &[u16]) -> io::Result<()> {
-    print!(rt; "{verb}: ok")?;
-    for w in words {
-        print!(rt; " {w}")?;
-    }
-    println!(rt; "")
+/// The line for a call and its answer.
+#[derive(Clone, Copy)]
+pub struct Answered<'a> {
+    pub verb: &'static str,
+    pub answer: &'a Answer,
 }
 
-/// The line for a call and its answer.
-pub fn print_answer(rt: &HostRuntime, verb: &str, answer: &Answer) -> io::Result<()> {
-    match answer {
-        Answer::Done => println!(rt; "{verb}: ok"),
-        Answer::Named(id) | Answer::Found(Some(id)) => {
-            let tag = id.tag();
-            let root = id.root();
-            println!(rt; "{verb}: ok {tag} {root}")
-        }
-        Answer::Found(None) => println!(rt; "{verb}: ok none"),
-        Answer::Counted(n) => println!(rt; "{verb}: ok {n}"),
-        Answer::Shown(words) => print_words(rt, verb, words.as_slice()),
-        Answer::Refused(why) => {
-            let number = why.number();
-            match why.address() {
-                Some(a) => println!(rt; "{verb}: refused {number} {a}"),
-                None => println!(rt; "{verb}: refused {number}"),
+impl fmt::Display for Answered<'_> {
+    fn fmt<W: fmt::Write>(&self, f: &mut fmt::Formatter<W>) -> fmt::Result {
+        let verb = self.verb;
+        match self.answer {
+            Answer::Done => write!(f, "{verb}: ok"),
+            Answer::Named(id) | Answer::Found(Some(id)) => {
+                write!(f, "{verb}: ok {} {}", id.tag(), id.root())
+            }
+            Answer::Found(None) => write!(f, "{verb}: ok none"),
+            Answer::Counted(n) => write!(f, "{verb}: ok {n}"),
+            Answer::Shown(words) => {
+                write!(f, "{verb}: ok")?;
+                for w in words {
+                    write!(f, " {w}")?;
+                }
+                Ok(())
+            }
+            Answer::Refused(why) => {
+                let number = why.number();
+                match why.address() {
+                    Some(a) => write!(f, "{verb}: refused {number} {a}"),
+                    None => write!(f, "{verb}: refused {number}"),
+                }
             }
         }
     }
 }
 
-/// The bytes of a block, 32 to a line.
-pub fn print_block(rt: &HostRuntime, block: &[u8; 512]) -> io::Result<()> {
-    for (i, b) in block.iter().enumerate() {
-        if i % 32 == 31 {
-            println!(rt; "{b:02x}")?;
-        } else {
-            print!(rt; "{b:02x} ")?;
+/// What a look at a block shows; it prints whole lines.
+#[derive(Clone, Copy)]
+pub enum Look {
+    /// The block's bytes, 32 to a line.
+    Bytes([u8; 512]),
+    /// There is no such block.
+    Outside,
+    /// It cannot be read.
+    Unreadable,
+}
+
+impl fmt::Display for Look {
+    fn fmt<W: fmt::Write>(&self, f: &mut fmt::Formatter<W>) -> fmt::Result {
+        match self {
+            Look::Bytes(bytes) => {
+                for (i, b) in bytes.iter().enumerate() {
+                    let end = if i % 32 == 31 { '\n' } else { ' ' };
+                    write!(f, "{b:02x}{end}")?;
+                }
+                Ok(())
+            }
+            Look::Outside => writeln!(f, "dump: refused 9"),
+            Look::Unreadable => writeln!(f, "unreadable"),
         }
     }
-    Ok(())
 }

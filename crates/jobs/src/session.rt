@@ -1,96 +1,102 @@
 // A script under way: the drive that it asked for, and the store on it.
-use device::{Cut, Device, Reading, Trial};
+use crate::parse::LineError;
+use crate::print::Look;
+use device::{Cut, Device, ReadError, Trial};
 use std::alloc::{AllocError, Global};
+use std::array;
 use store::{Answer, Call, Store};
+
+// How many cuts a trial drive takes.
+const CUTS: usize = 8;
 
 /// The drive of a script, until its first call and from then on.
 #[derive(Drop)]
-pub struct Session {
-    // how many blocks the drive has; 0 before there is one
-    size: usize,
-    cuts: [Cut; 8],
-    cut_count: usize,
-    store: Option<Store<Trial>>,
-    calls: Vec<Call>,
+pub enum Session {
+    /// No drive was asked for.
+    NoDrive,
+    /// A drive of so many blocks was asked for, with these cuts, eight at most.
+    Asked {
+        size: u16,
+        cuts: Vec<Cut>,
+    },
+    /// The store on the drive, and the calls that it is yet to play.
+    Playing {
+        store: Store<Trial>,
+        calls: Vec<Call>,
+    },
 }
 
 impl Session {
-    pub fn new(heap: Global) -> Session {
-        Session {
-            size: 0,
-            cuts: [Cut::NEVER; 8],
-            cut_count: 0,
-            store: None,
-            calls: Vec::new(heap),
+    /// Asks for a drive of so many blocks. Refused if there is one, or if there can be none.
+    pub fn drive(&mut self, size: u64, heap: Global) -> Result<(), LineError> {
+        match (&self, u16::try_from(size)) {
+            (Session::NoDrive, Ok(size @ 1..=2048)) => {
+                *self = Session::Asked {
+                    size,
+                    cuts: Vec::new(heap),
+                };
+                Ok(())
+            }
+            _ => Err(LineError::NotUnderstood),
         }
     }
 
-    /// Asks for a drive of so many blocks. False if there is one, or if there can be none.
-    pub fn drive(&mut self, size: u64) -> bool {
-        if self.size != 0 || size == 0 || size > 2048 {
-            return false;
+    /// Asks for a cut. Refused before there is a drive, from the first call on, and for a ninth one.
+    pub fn cut(&mut self, cut: Cut) -> Result<(), LineError> {
+        match self {
+            Session::Asked { cuts, .. } if cuts.len() < CUTS => Ok(cuts.push(cut)?),
+            _ => Err(LineError::NotUnderstood),
         }
-        self.size = size as usize;
-        true
     }
 
-    /// Asks for a cut. False before there is a drive, from the first call on, and for a ninth one.
-    pub fn cut(&mut self, cut: Cut) -> bool {
-        if self.size == 0 || self.store.is_some() || !self.calls.is_empty() || self.cut_count >= 8 {
-            return false;
+    /// Asks for a call, the first of which makes the drive. Refused before a drive is asked for.
+    pub fn call(&mut self, call: Call, heap: Global) -> Result<(), LineError> {
+        if let Session::Asked { size, cuts } = self {
+            let store = Store::attach(trial(heap, *size, cuts.as_slice())?);
+            *self = Session::Playing {
+                store,
+                calls: Vec::new(heap),
+            };
         }
-        self.cuts[self.cut_count] = cut;
-        self.cut_count += 1;
-        true
+        match self {
+            Session::Playing { calls, .. } => Ok(calls.push(call)?),
+            _ => Err(LineError::NotUnderstood),
+        }
     }
 
-    /// Asks for a call. False before there is a drive.
-    pub fn call(&mut self, call: Call) -> Result<bool, AllocError> {
-        if self.size == 0 {
-            return Ok(false);
+    /// Plays the calls that were asked for since the last time, and gives their answers.
+    pub fn play(&mut self, heap: Global) -> Result<Vec<Answer>, AllocError> {
+        let mut log = Vec::new(heap);
+        if let Session::Playing { store, calls } = self {
+            store.play(calls.as_slice(), &mut log, heap)?;
+            calls.clear();
         }
-        self.calls.push(call)?;
-        Ok(true)
+        Ok(log)
     }
 
-    /// Whether there is a drive.
-    pub fn has_drive(&self) -> bool {
-        self.size != 0
-    }
-
-    /// Plays the calls that were asked for since the last time. Their answers go into the log.
-    pub fn play(&mut self, log: &mut Vec<Answer>, heap: Global) -> Result<(), AllocError> {
-        if self.calls.is_empty() {
-            return Ok(());
-        }
-        let mut store = match self.store.take() {
-            Some(store) => store,
-            None => Store::attach(trial(heap, self.size, self.cuts)?),
+    /// Block `b` of the drive, lit or dark. Refused before there is a drive.
+    pub fn look(&self, b: u64) -> Result<Look, LineError> {
+        let mut bytes = [0; 512];
+        let read = match self {
+            Session::NoDrive => return Err(LineError::NotUnderstood),
+            Session::Asked { size, .. } if b >= u64::from(*size) => Err(ReadError::Outside),
+            // before the first call it is all zeros
+            Session::Asked { .. } => Ok(()),
+            Session::Playing { store, .. } => store.device().peek(b as usize, &mut bytes),
         };
-        let played = store.play(self.calls.as_slice(), log, heap);
-        self.store = Some(store);
-        self.calls.clear();
-        played
-    }
-
-    /// Block `b` of the drive, lit or dark.
-    pub fn block(&self, b: u64, buffer: &mut [u8; 512]) -> Reading {
-        if b >= self.size as u64 {
-            return Reading::Outside;
-        }
-        match &self.store {
-            Some(store) => store.device().peek(b as usize, buffer),
-            None => Reading::Done,
-        }
+        Ok(match read {
+            Ok(()) => Look::Bytes(bytes),
+            Err(ReadError::Outside) => Look::Outside,
+            Err(ReadError::Dark | ReadError::Unreadable) => Look::Unreadable,
+        })
     }
 }
 
 // A drive of so many blocks, all zeros and readable.
-fn trial(heap: Global, size: usize, cuts: [Cut; 8]) -> Result<Trial, AllocError> {
-    let mut bytes = Vec::new(heap);
-    for _ in 0..size {
-        bytes.extend_from_slice(&[0; 512])?;
-    }
+fn trial(heap: Global, size: u16, cuts: &[Cut]) -> Result<Trial, AllocError> {
+    let size = usize::from(size);
+    let bytes = vec![in heap; 0u8; 512 * size]?;
     let marks = vec![in heap; 0u8; size]?;
+    let cuts = array::from_fn(|i| cuts.get(i).copied().unwrap_or(Cut::NEVER));
     Ok(Trial::new(bytes, marks, cuts))
 }

@@ -1,5 +1,5 @@
 -- Lists of stores carried out one after another.
-use Rattle.std.proofs.Common.{◌≡◌, ℕ, zero, suc, ◌+◌, ◌/◌, ◌<◌, Bool, List, [], ◌∷◌, ◌++◌, length, sym, refl, ap, ◌∙◌, subst, ap₂, ⊎_elim, arith}
+use Rattle.std.proofs.Common.{◌≡◌, ℕ, zero, suc, ◌+◌, ◌*◌, ◌/◌, ◌<◌, Bool, List, [], ◌∷◌, ◌++◌, length, sym, refl, ap, ◌∙◌, subst, ap₂, ⊎_elim, arith}
 use Rattle.std.proofs.lemmas.List.{length-append}
 use Rattle.std.proofs.lemmas.Bool.{cases_eq}
 use Rattle.device.specs.Blocks.{Block}
@@ -10,13 +10,10 @@ use Rattle.journal.specs.Committing.{closing}
 use Rattle.volume.specs.Volume.{cylinders_of}
 
 -- a device stays ready while its stores are done
-pub still_ready : {blocks blocks' : List Block} {lit lit' : Bool} {plan : List Write} {n cylinders : ℕ} → Ready blocks lit cylinders → Whole blocks plan n blocks' lit' → Ready blocks' lit' cylinders
-still_ready {blocks} {blocks'} {lit} {lit'} {plan} ready whole = record {
-  on = whole.on;
-  long = ap length whole.after ∙ wrote_length blocks plan ∙ ready.long;
-  some = ready.some;
-  few = ready.few;
-}
+pub still_ready : {blocks blocks' : List Block} {lit lit' : Bool} {plan : List Write} {n cylinders : ℕ} → Ready blocks lit cylinders → Whole blocks plan n blocks' lit' → Ready blocks' lit' (cylinders_of blocks')
+still_ready {blocks} {blocks'} {lit} {lit'} {plan} {n} {cylinders} ready whole =
+    let long : length blocks' ≡ 32 * cylinders = ap length whole.after ∙ wrote_length blocks plan ∙ ready.long in
+    record { on = whole.on; long = omega arith; some = omega (arith, ready.some); few = omega (arith, ready.few) }
 
 pub ready_cylinders : {blocks : List Block} {lit : Bool} {cylinders : ℕ} → Ready blocks lit cylinders → cylinders_of blocks ≡ cylinders
 ready_cylinders {blocks} {lit} {cylinders} ready = ap (λ n. n / 32) ready.long ∙ omega arith

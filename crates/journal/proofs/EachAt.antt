@@ -1,5 +1,5 @@
 -- Changing the entries of a map one after another.
-use Rattle.std.proofs.Common.{◌≡◌, ℕ, zero, suc, ◌+◌, ◌<◌, ◌≤◌, Bool, true, false, ◌||◌, List, [], ◌∷◌, ◌++◌, length, get_or, take, set, sym, refl, ap, ◌∙◌, arith}
+use Rattle.std.proofs.Common.{◌≡◌, ℕ, zero, suc, ◌+◌, ◌<◌, ◌≤◌, Bool, true, false, ◌||◌, List, [], ◌∷◌, ◌++◌, length, get_or, take, set, sym, refl, ap, ◌∙◌, ap₂, add-one, arith}
 use Rattle.std.proofs.lemmas.List.{take_more, length-take-le}
 use Rattle.map.specs.declared.entry.Entry.{Entry}
 use Rattle.map.specs.declared.entry.Entry.TheVariants.{Map}
@@ -26,6 +26,10 @@ module _ (f : ℕ → Entry → Entry) where
   partly_more a (suc i) [] = refl
   partly_more a (suc i) (e ∷ es) =
       ap (λ b. f a e ∷ set (partly f (a + 1) i es) i (f b (get_or es i Map))) (omega arith) ∙ ap (λ rest. f a e ∷ rest) (partly_more (a + 1) i es)
+
+  -- the next entry is changed
+  pub partly_set : (a i : ℕ) (now es : List Entry) (e : Entry) → now ≡ partly f a i es → e ≡ f (a + i) (get_or es i Map) → set now i e ≡ partly f a (i + 1) es
+  partly_set a i now es e so_far is = ap₂ (λ xs x. set xs i x) so_far is ∙ partly_more a i es ∙ ap (λ n. partly f a n es) (sym (add-one i))
 
   pub partly_all : (a i : ℕ) (es : List Entry) → length es ≤ i → partly f a i es ≡ each_at f a es
   unfolding partly each_at
@@ -65,7 +69,18 @@ module _ (t : ℕ → Entry → Bool) where
   any_push a (x ∷ es) e =
       ap (λ r. t a x || r) (any_push (a + 1) es e ∙ ap (λ b. any_at t (a + 1) es || t b e) (omega arith)) ∙ sym (or_assoc (t a x) (any_at t (a + 1) es) (t (a + length (x ∷ es)) e))
 
-  pub any_more : (a i : ℕ) (es : List Entry) → i < length es → any_at t a (take (i + 1) es) ≡ (any_at t a (take i es) || t (a + i) (get_or es i Map))
+  any_more : (a i : ℕ) (es : List Entry) → i < length es → any_at t a (take (i + 1) es) ≡ (any_at t a (take i es) || t (a + i) (get_or es i Map))
   any_more a i es h =
       ap (any_at t a) (take_more es i Map h) ∙ any_push a (take i es) (get_or es i Map)
       ∙ ap (λ n. any_at t a (take i es) || t (a + n) (get_or es i Map)) (length-take-le i es (omega arith))
+
+  -- with one entry more
+  pub any_yes : (a i : ℕ) (es : List Entry) → i < length es → t (a + i) (get_or es i Map) ≡ true → any_at t a (take (i + 1) es) ≡ true
+  any_yes a i es h so = any_more a i es h ∙ ap (λ x. any_at t a (take i es) || x) so ∙ or_true (any_at t a (take i es))
+    where
+      or_true : (x : Bool) → (x || true) ≡ true
+      or_true true = refl
+      or_true false = refl
+
+  pub any_no : (a i : ℕ) (es : List Entry) → i < length es → t (a + i) (get_or es i Map) ≡ false → any_at t a (take (i + 1) es) ≡ any_at t a (take i es)
+  any_no a i es h none = any_more a i es h ∙ ap (λ x. any_at t a (take i es) || x) none ∙ or_none (any_at t a (take i es))

@@ -47,6 +47,6 @@ module _ (rule : Rule) (blocks : List Block) where
       went_planned (pass_writes rule blocks) c cylinders m h first (subst (λ plan. Went now plan after lit_after) (same_writes c now first.after) second)
 
   -- a cylinder past the last has no map
-  pub past_writes : (lit : Bool) (cylinders d : ℕ) → Ready blocks lit cylinders → cylinders ≤ d → pass_writes rule blocks d ≡ []
-  past_writes lit cylinders d ready h =
+  pub past_writes : (lit : Bool) (d : ℕ) → Ready blocks lit (cylinders_of blocks) → cylinders_of blocks ≤ d → pass_writes rule blocks d ≡ []
+  past_writes lit d ready h =
       ap (λ b. pass_write d (ruled rule d (map_in (cylinders_of blocks) d b))) (get_or_past blocks (32 * d) Block.unreadable (omega (arith, ready.long)))

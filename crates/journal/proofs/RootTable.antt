@@ -1,10 +1,15 @@
 -- The table of root entries, filled cylinder by cylinder.
 --   Tabled   the table once the cylinders below c are noted
-use Rattle.std.proofs.Common.{◌≡◌, ℕ, ◌+◌, ◌*◌, ◌/◌, ◌%◌, ◌<◌, ◌≤◌, Bool, true, false, cond, eqb, ltb, leb, ◌≢◌, List, length, get_or, set, replicate, Some, None, Option, sym, refl, ap, ◌∙◌, ap₂, ⊎_elim, arith}
+use Rattle.std.proofs.Common.{◌≡◌, ℕ, ◌+◌, ◌-◌, ◌*◌, ◌/◌, ◌%◌, ◌<◌, ◌≤◌, Bool, true, false, cond, eqb, ltb, leb, ◌≢◌, List, length, get_or, set, replicate, Some, None, Option, sym, refl, ap, ◌∙◌, ap₂, ⊎_elim, arith}
 use mathlib.Core.Path.{fun_ext}
 use Rattle.std.proofs.lemmas.List.{length-set, length-replicate, get_or-replicate, get_or-set_same, get_or-set_other, get_or_past}
+use Rattle.std.proofs.lemmas.List.Edits.{paste_none, paste_more, length-between, get_or-between}
+use Rattle.std.proofs.lemmas.Slice.{put_mid-paste}
+use Rattle.std.specs.List.{between}
+use borrow.Rule.Slice.PartMut.{put_mid}
+use lib.Seq.{paste}
 use Rattle.std.proofs.lemmas.Bool.{and_parts, leb-true, lt-ltb, le-ltb, eq-eqb, ne_eqb, cases_eq, cases_lt}
-use Rattle.device.specs.Blocks.{Block, block_at}
+use Rattle.device.specs.Blocks.{Block}
 use Rattle.map.specs.Addresses.{cylinder_of, sector_of, root_place}
 use Rattle.map.specs.declared.entry.Entry.{Entry}
 use Rattle.map.specs.declared.entry.Entry.TheVariants.{Map, Free}
@@ -14,7 +19,6 @@ use Rattle.journal.specs.Passes.{pass_plan}
 use Rattle.volume.specs.Counting.{Entries}
 use Rattle.volume.specs.Tables.{root_slot, table_entries}
 use Rattle.volume.specs.Volume.{cylinders_of, map_in, map_at, entry_in, entry_at}
-use Rattle.journal.proofs.Carrying.{ready_cylinders}
 
 -- the slot of a root entry, and the address that a slot is for
 abbrev pub slot_address : ℕ → ℕ
@@ -58,6 +62,22 @@ module _ (k c : ℕ) (f : ℕ → Entry) (old : Entry) where
       (λ n2. slot (4 * c + 1) 1 _ (omega arith) refl
       (λ n1. slot (4 * c) 0 _ (omega arith) (omega arith)
       (λ n0. sym (ap (λ t. cond t (f (k % 4 + 1)) old) (ne_eqb (k / 4) c (λ e. omega arith)))))))
+
+-- the four entries copied at once are those that are set one after another
+module _ (table entries : List Entry) (c : ℕ) (long : length table ≡ 256) (full : length entries ≡ 32) (few : c < 64) where
+  abbrev four : List Entry
+  four = between 1 5 entries
+
+  copied : (i k : ℕ) (now : List Entry) → i < 4 → k ≡ 4 * c + i → now ≡ paste table (4 * c) four i → set now k (get_or entries (1 + i) Map) ≡ paste table (4 * c) four (i + 1)
+  copied i k now h at is =
+      ap₂ (λ xs e. set xs k e) is (sym (get_or-between entries 1 5 i Map (omega arith))) ∙ ap (λ n. set (paste table (4 * c) four i) n (get_or four i Map)) at
+      ∙ paste_more table (4 * c) four i Map (omega arith) (omega (arith, length-between entries 1 5 (omega arith)))
+
+  pub noted_at_once : (new : List Entry) (d : ℕ) → d ≡ c → new ≡ four → put_mid (4 * d) (4 * d + 4 - 4 * d) table new ≡ noted table c entries
+  noted_at_once new d same is =
+      ap (λ n. put_mid (4 * n) (4 * n + 4 - 4 * n) table new) same
+      ∙ put_mid-paste (4 * c) (4 * c + 4 - 4 * c) table new four 4 is (omega arith) (omega (arith, length-between entries 1 5 (omega arith)))
+      ∙ sym (copied 3 (4 * c + 3) _ (omega arith) refl (copied 2 (4 * c + 2) _ (omega arith) refl (copied 1 (4 * c + 1) _ (omega arith) refl (copied 0 (4 * c) table (omega arith) (omega arith) (paste_none table (4 * c) four)))))
 
 noted_slot : (table entries : List Entry) (c k : ℕ) → length table ≡ 256 → c < 64 → get_or (noted table c entries) k Free ≡ cond (eqb (k / 4) c) (get_or entries (k % 4 + 1) Map) (get_or table k Free)
 noted_slot table entries c k long few =
@@ -120,24 +140,24 @@ read_entries blocks c s o is h =
     let sector : (32 * c + s) % 32 ≡ s = omega arith in
     ap₂ (λ d t. entry_in (map_at blocks d) t) cylinder sector ∙ ap (λ x. entry_in x s) is
 
-module _ {blocks : List Block} {lit : Bool} {cylinders : ℕ} (ready : Ready blocks lit cylinders) where
-  past_entries : (a : ℕ) → 32 * cylinders ≤ a → entry_at blocks a ≡ Free
+module _ {blocks : List Block} {lit : Bool} (ready : Ready blocks lit (cylinders_of blocks)) where
+  past_entries : (a : ℕ) → 32 * cylinders_of blocks ≤ a → entry_at blocks a ≡ Free
   past_entries a h =
       ap (λ b. entry_in (map_in (cylinders_of blocks) (cylinder_of a) b) (sector_of a)) (get_or_past blocks (32 * cylinder_of a) Block.unreadable (omega (arith, ready.long)))
 
   -- a map was read, and its root entries noted if it can be used
-  pub tabled_some : (c : ℕ) (table entries : List Entry) → c < cylinders → Tabled (entry_at blocks) c table → map_in cylinders c (block_at blocks (32 * c)) ≡ Some entries →
+  pub tabled_some : (c : ℕ) (table entries : List Entry) → c < cylinders_of blocks → Tabled (entry_at blocks) c table → map_at blocks c ≡ Some entries →
       Tabled (entry_at blocks) (c + 1) (noted table c entries)
   tabled_some c table entries h so_far is =
       noted_more (entry_at blocks) c table so_far entries (omega (arith, ready.few))
-      (λ s below. sym (read_entries blocks c s (Some entries) (ap (λ n. map_in n c (block_at blocks (32 * c))) (ready_cylinders ready) ∙ is) below))
+      (λ s below. sym (read_entries blocks c s (Some entries) is below))
 
-  pub tabled_none : (c : ℕ) (table : List Entry) → Tabled (entry_at blocks) c table → map_in cylinders c (block_at blocks (32 * c)) ≡ None → Tabled (entry_at blocks) (c + 1) table
+  pub tabled_none : (c : ℕ) (table : List Entry) → Tabled (entry_at blocks) c table → map_at blocks c ≡ None → Tabled (entry_at blocks) (c + 1) table
   tabled_none c table so_far is =
-      passed_more (entry_at blocks) c table so_far (λ s below. read_entries blocks c s None (ap (λ n. map_in n c (block_at blocks (32 * c))) (ready_cylinders ready) ∙ is) below)
+      passed_more (entry_at blocks) c table so_far (λ s below. read_entries blocks c s None is below)
 
   -- once every cylinder is noted, the table gives every root entry
-  pub tabled_all : (c : ℕ) (table : List Entry) → cylinders ≤ c → Tabled (entry_at blocks) c table → (a : ℕ) → table_entries table a ≡ roots_of (entry_at blocks) a
+  pub tabled_all : (c : ℕ) (table : List Entry) → cylinders_of blocks ≤ c → Tabled (entry_at blocks) c table → (a : ℕ) → table_entries table a ≡ roots_of (entry_at blocks) a
   tabled_all c table past so_far a = by (root_place a) refl
     where
       slot_of : leb 1 (sector_of a) ≡ true → leb (sector_of a) 4 ≡ true → cylinder_of a < 64 → get_or table (root_slot a) Free ≡ cond (ltb (root_slot a / 4) c) (entry_at blocks a) Free
@@ -154,15 +174,15 @@ module _ {blocks : List Block} {lit : Bool} {cylinders : ℕ} (ready : Ready blo
           let low = leb-true 1 (sector_of a) sides.0 in
           let high = leb-true (sector_of a) 4 sides.1 in
           ⊎_elim
-          (λ (inside : cylinder_of a < cylinders).
+          (λ (inside : cylinder_of a < cylinders_of blocks).
           slot_of sides.0 sides.1 (omega (arith, ready.few)) ∙ ap (λ t. cond t (entry_at blocks a) Free) (lt-ltb (root_slot a / 4) c (omega arith)))
-          (λ (outside : cylinders ≤ cylinder_of a).
+          (λ (outside : cylinders_of blocks ≤ cylinder_of a).
           let none = past_entries a (omega arith) in
           ⊎_elim
           (λ (few : cylinder_of a < 64). slot_of sides.0 sides.1 few ∙ ap (λ e. cond (ltb (root_slot a / 4) c) e Free) none ∙ same_both (ltb (root_slot a / 4) c) Free ∙ sym none)
           (λ (far : 64 ≤ cylinder_of a). get_or_past table (root_slot a) Free (omega (arith, so_far.0)) ∙ sym none)
           (cases_lt (cylinder_of a) 64))
-          (cases_lt (cylinder_of a) cylinders)
+          (cases_lt (cylinder_of a) (cylinders_of blocks))
         where
           same_both : (t : Bool) (e : Entry) → cond t e e ≡ e
           same_both true e = refl

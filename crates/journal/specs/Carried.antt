@@ -6,12 +6,14 @@
 --   Carries   the same of a device and its meaning, for the list that a plan makes of its blocks
 --   Completes the same where the stores are not counted
 --   Tells     a reading of a device: the answer is what a function says of its blocks
+--   CarriesAll, CompletesAll, TellsAll   the same of all the cylinders that the device has
 --   bytes_in  the bytes of a block that can be read
 --   planned   the lists of the cylinders below n, one after another
 use Rattle.std.specs.Prelude.{◌≡◌, ℕ, zero, suc, ◌*◌, ◌≤◌, Bool, true, false, List, [], ◌++◌, length, Some, None, Ok, Err, Option, Result}
 use Rattle.device.specs.Blocks.{Block}
 use Rattle.device.specs.Plans.{Write, wrote, CutIn, Runs}
 use Rattle.device.specs.declared.device.Device.{Ghosts}
+use Rattle.volume.specs.Volume.{cylinders_of}
 
 pub record Ready (blocks : List Block) (lit : Bool) (cylinders : ℕ) : Type 0 where
   pub on : lit ≡ true
@@ -56,3 +58,12 @@ abbrev pub Completes : {D A E : Type 0} → Ghosts D → D → ℕ → (List Blo
 Completes meaning device cylinders plan r device' =
     Ready (meaning.blocks device) (meaning.lit device) cylinders →
     Runs (meaning.blocks device) true (plan (meaning.blocks device)) r (meaning.blocks device') (meaning.lit device')
+
+abbrev pub CarriesAll : {D E : Type 0} → Ghosts D → D → (List Block → List Write) → Result ℕ E → D → Type 0
+CarriesAll meaning device plan r device' = Carries meaning device (cylinders_of (meaning.blocks device)) plan r device'
+
+abbrev pub CompletesAll : {D A E : Type 0} → Ghosts D → D → (List Block → List Write) → Result A E → D → Type 0
+CompletesAll meaning device plan r device' = Completes meaning device (cylinders_of (meaning.blocks device)) plan r device'
+
+abbrev pub TellsAll : {D X E : Type 0} → Ghosts D → D → (List Block → X) → Result X E → Type 0
+TellsAll meaning device f r = Tells meaning device (cylinders_of (meaning.blocks device)) f r

@@ -1,17 +1,19 @@
-// Single blocks of a device: read, decoded, stored.
-ghost use Rattle.std.specs.Prelude.{◌≡◌, ◌*◌, true, [], ◌∷◌, Ok};
+// Single blocks of a device, read and decoded.
+ghost use Rattle.std.specs.Prelude.{◌≡◌, ◌*◌, min, true, Ok};
 ghost use Rattle.device.specs.Blocks.{block_at};
-ghost use Rattle.device.specs.Plans.{write, Runs};
 ghost use Rattle.journal.specs.Carried.{bytes_in};
-ghost use Rattle.volume.specs.Volume.{map_in, root_in};
+ghost use Rattle.volume.specs.Volume.{cylinders_of, map_in, root_in};
 
-use device::{Device, Reading, Storing};
+use device::{Device, PowerCut, ReadError};
 use map::{Entry, decode_map};
 use object::RootBlock;
 
-/// Power failed.
-#[derive(Clone, Copy, PartialEq, Eq, Debug)]
-pub struct PowerCut;
+/// How many cylinders a device has, at most 64.
+pub fn cylinders<D: Device>(device: &D) -> u8
+    ensures { result ≡ min (cylinders_of (D.blocks device.now)) 64 }
+{
+    (device.size() / 32).min(64) as u8
+}
 
 /// The bytes of block `b`, or none if it cannot be read.
 pub fn load<D: Device>(device: &D, b: usize) -> Result<Option<[u8; 512]>, PowerCut>
@@ -19,21 +21,9 @@ pub fn load<D: Device>(device: &D, b: usize) -> Result<Option<[u8; 512]>, PowerC
 {
     let mut bytes = [0; 512];
     match device.read(b, &mut bytes) {
-        Reading::Done => Ok(Some(bytes)),
-        Reading::Dark => Err(PowerCut),
-        Reading::Unreadable => Ok(None),
-        Reading::Outside => Ok(None),
-    }
-}
-
-/// Stores the bytes at block `b`; a block that is not there is passed over.
-pub fn put<D: Device>(device: &mut D, b: usize, bytes: &[u8; 512]) -> Result<(), PowerCut>
-    ensures { Runs (D.blocks device.old) (D.lit device.old) (write b bytes.now ∷ []) result (D.blocks device.new) (D.lit device.new) }
-{
-    match device.store(b, bytes) {
-        Storing::Done => Ok(()),
-        Storing::Dark => Err(PowerCut),
-        Storing::Outside => Ok(()),
+        Ok(()) => Ok(Some(bytes)),
+        Err(ReadError::Dark) => Err(PowerCut),
+        Err(ReadError::Unreadable | ReadError::Outside) => Ok(None),
     }
 }
 
@@ -46,10 +36,11 @@ pub fn load_map<D: Device>(
 ) -> Result<Option<[Entry; 32]>, PowerCut>
     ensures { D.lit device.now ≡ true → result ≡ Ok (map_in cylinders cylinder (block_at (D.blocks device.now) (32 * cylinder))) }
 {
-    match load(device, 32 * usize::from(cylinder))? {
-        Some(bytes) => Ok(decode_map(&bytes, cylinder, cylinders)),
-        None => Ok(None),
-    }
+    let bytes = load(device, 32 * usize::from(cylinder))?;
+    let entries = bytes
+        .as_ref()
+        .and_then(|bytes| decode_map(bytes, cylinder, cylinders));
+    Ok(entries)
 }
 
 /// The root block at a root place in a volume of so many cylinders, if it can be read and is well
@@ -61,8 +52,9 @@ pub fn load_root<D: Device>(
 ) -> Result<Option<RootBlock>, PowerCut>
     ensures { D.lit device.now ≡ true → result ≡ Ok (root_in cylinders r (block_at (D.blocks device.now) r)) }
 {
-    match load(device, r as usize)? {
-        Some(bytes) => Ok(RootBlock::decode(&bytes, r, cylinders)),
-        None => Ok(None),
-    }
+    let bytes = load(device, r as usize)?;
+    let root = bytes
+        .as_ref()
+        .and_then(|bytes| RootBlock::decode(bytes, r, cylinders));
+    Ok(root)
 }

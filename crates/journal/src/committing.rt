@@ -1,18 +1,19 @@
 // Committing a transaction, and creating an object.
 ghost use Rattle.std.specs.Prelude.{◌≡◌, ◌+◌, ◌≤◌, IfOk};
-ghost use Rattle.journal.specs.Carried.{Carries};
+ghost use Rattle.journal.specs.Carried.{CarriesAll};
 ghost use Rattle.map.specs.Addresses.{cylinder_of};
+ghost use Rattle.map.specs.declared.entry.Entry.{Entry as MapEntry};
 ghost use Rattle.journal.specs.Committing.{place_rule, followed, root_plan, commit_plan, create_plan, new_root};
 ghost use Rattle.journal.specs.Passes.{pass_writes};
 ghost use Rattle.volume.specs.Committing.{marked};
 
-use crate::blocks::{PowerCut, put};
 use crate::mark::Marking;
 use crate::passes::{MapRule, pass, pass_cylinder};
 use crate::row::Row;
-use device::Device;
+use device::{Device, PowerCut, put};
 use map::{Entry, Identifier, Kind, RootState, split};
 use object::{Root, RootBlock};
+use volume::with_commit_bit;
 
 /// Sets the commit bit of an object.
 #[derive(Clone, Copy)]
@@ -20,37 +21,31 @@ pub struct CommitBit {
     pub id: Identifier,
 }
 
-// The entry with its commit bit set.
-fn with_bit(entry: Entry) -> Entry
-    ensures { result ≡ marked entry }
+// The entries of a cylinder with that of root place `r` changed, if it is there.
+fn change_at<F: FnOnce(Entry) -> Entry>(
+    r: u32,
+    cylinder: u8,
+    entries: &[Entry; 32],
+    change: F,
+) -> Option<[Entry; 32]>
+    requires { F.IsAlwaysCallable change }
+    ensures { (g : MapEntry → MapEntry) → ((e f : MapEntry) → F.post change e f → f ≡ g e) → result ≡ place_rule r g cylinder entries.now }
 {
-    match entry {
-        Entry::Root {
-            state,
-            kind,
-            tag,
-            ..
-        } => Entry::Root {
-            state,
-            kind,
-            commit: true,
-            tag,
-        },
-        _ => entry,
+    let (c, s) = split(r);
+    if u32::from(cylinder) != c {
+        return None;
     }
+    let mut changed = *entries;
+    changed[s as usize] = change(changed[s as usize]);
+    Some(changed)
 }
 
 impl MapRule for CommitBit {
     ghost rule = { λ s. place_rule s.id.root marked };
 
     fn changed(&self, cylinder: u8, entries: &[Entry; 32]) -> Option<[Entry; 32]> {
-        let (c, s) = split(self.id.root());
-        if u32::from(cylinder) != c {
-            return None;
-        }
-        let mut changed = *entries;
-        changed[s as usize] = with_bit(entries[s as usize]);
-        Some(changed)
+        let r = self.id.root();
+        change_at(r, cylinder, entries, |entry| with_commit_bit(entry))
     }
 }
 
@@ -65,79 +60,60 @@ impl MapRule for NewRoot {
     ghost rule = { λ s. place_rule s.id.root (new_root s.kind s.id.tag) };
 
     fn changed(&self, cylinder: u8, entries: &[Entry; 32]) -> Option<[Entry; 32]> {
-        let (c, s) = split(self.id.root());
-        if u32::from(cylinder) != c {
-            return None;
-        }
-        let mut changed = *entries;
-        changed[s as usize] = Entry::Root {
+        let r = self.id.root();
+        let first = Entry::Root {
             state: RootState::Allocated,
             kind: self.kind,
             commit: false,
             tag: self.id.tag(),
         };
-        Some(changed)
+        change_at(r, cylinder, entries, |_| first)
     }
 }
 
 // The map of the cylinder that holds root place `r`, stored if the rule changes it.
-fn pass_place<D: Device, R: MapRule>(
-    device: &mut D,
-    rule: &R,
-    r: u32,
-    cylinders: u8,
-) -> Result<u32, PowerCut>
+fn pass_place<D: Device, R: MapRule>(device: &mut D, rule: &R, r: u32) -> Result<u32, PowerCut>
     ensures few { IfOk result (λ n. n ≤ 1) }
-    ensures stores { Carries D.Device device.old cylinders (λ held. pass_writes (R.MapRule.rule rule.now) held (cylinder_of r)) result device.new }
+    ensures stores { CarriesAll D.Device device.old (λ held. pass_writes (R.MapRule.rule rule.now) held (cylinder_of r)) result device.new }
 {
     match u8::try_from(r / 32) {
-        Ok(cylinder) => pass_cylinder(device, rule, cylinder, cylinders),
+        Ok(cylinder) => pass_cylinder(device, rule, cylinder),
         Err(_) => Ok(0),
     }
 }
 
 // The root block, and then the map of its place, changed by the rule.
-fn store_root<D: Device, R: MapRule>(
-    device: &mut D,
-    root: &Root,
-    rule: &R,
-    cylinders: u8,
-) -> Result<u32, PowerCut>
+fn store_root<D: Device, R: MapRule>(device: &mut D, root: &Root, rule: &R) -> Result<u32, PowerCut>
     ensures few { IfOk result (λ n. n ≤ 2) }
-    ensures stores { Carries D.Device device.old cylinders (followed (root_plan root.now) (λ held. pass_writes (R.MapRule.rule rule.now) held (cylinder_of root.now.id.root))) result device.new }
+    ensures stores { CarriesAll D.Device device.old (followed (root_plan root.now) (λ held. pass_writes (R.MapRule.rule rule.now) held (cylinder_of root.now.id.root))) result device.new }
 {
     let r = root.id.root();
     put(device, r as usize, &RootBlock::Live(*root).encode())?;
-    let maps = pass_place(device, rule, r, cylinders)?;
+    let maps = pass_place(device, rule, r)?;
     Ok(1 + maps)
 }
 
 /// Commits a transaction on the object of this root block, which has the new addresses: stores the
 /// maps with its intentions, and if there are any the root block and the commit bit.
-pub fn commit<D: Device>(
-    device: &mut D,
-    root: &Root,
-    rows: &[Row; 64],
-    cylinders: u8,
-) -> Result<u32, PowerCut>
-    ensures { Carries D.Device device.old cylinders (commit_plan root.now rows.now) result device.new }
+pub fn commit<D: Device>(device: &mut D, root: &Root, rows: &[Row; 64]) -> Result<u32, PowerCut>
+    ensures { CarriesAll D.Device device.old (commit_plan root.now rows.now) result device.new }
 {
     let owner = root.id;
-    let marked = pass(device, &Marking { owner, rows: *rows }, cylinders)?;
+    let marked = pass(device, &Marking { owner, rows: *rows })?;
     if marked == 0 {
         return Ok(0);
     }
-    let sealed = store_root(device, root, &CommitBit { id: owner }, cylinders)?;
+    let sealed = store_root(device, root, &CommitBit { id: owner })?;
     Ok(marked + sealed)
 }
 
 /// Stores the root block of a new object, and its entry.
-pub fn create<D: Device>(device: &mut D, root: &Root, cylinders: u8) -> Result<u32, PowerCut>
-    ensures { Carries D.Device device.old cylinders (create_plan root.now) result device.new }
+pub fn create<D: Device>(device: &mut D, root: &Root) -> Result<u32, PowerCut>
+    ensures { CarriesAll D.Device device.old (create_plan root.now) result device.new }
 {
     let rule = NewRoot {
         id: root.id,
         kind: root.kind,
     };
-    store_root(device, root, &rule, cylinders)
+    store_root(device, root, &rule)
 }

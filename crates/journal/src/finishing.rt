@@ -1,12 +1,13 @@
 // The tail of every change: maps are settled, then commit bits are cleared.
 ghost use Rattle.std.specs.Prelude.{◌≡◌, ◌<◌};
-ghost use Rattle.journal.specs.Carried.{Ready, Carries};
+ghost use Rattle.journal.specs.Carried.{Ready, CarriesAll};
 ghost use Rattle.journal.specs.Finishing.{RootsRead, noted, settle_rule, clear_rule, finish_plan};
 ghost use Rattle.volume.specs.Tables.{table_entries};
+ghost use Rattle.volume.specs.Volume.{cylinders_of};
 
-use crate::blocks::{PowerCut, load_map};
+use crate::blocks::{cylinders, load_map};
 use crate::passes::{MapRule, pass};
-use device::Device;
+use device::{Device, PowerCut};
 use map::Entry;
 use volume::{clear_map, map_has_commit_bit, map_needs_settling, settle_map};
 
@@ -15,20 +16,17 @@ fn note_roots(table: &mut [Entry; 256], cylinder: u8, entries: &[Entry; 32])
     ensures { cylinder < 64 → table.new ≡ noted table.old cylinder entries.now }
 {
     let first = 4 * usize::from(cylinder);
-    if first >= 256 {
-        return;
+    if first < 256 {
+        table[first..first + 4].copy_from_slice(&entries[1..5]);
     }
-    table[first] = entries[1];
-    table[first + 1] = entries[2];
-    table[first + 2] = entries[3];
-    table[first + 3] = entries[4];
 }
 
 /// The root entries of a volume, as a table; a map that cannot be used has none.
-pub fn root_entries<D: Device>(device: &D, cylinders: u8) -> Result<[Entry; 256], PowerCut>
-    ensures { Ready (D.blocks device.now) (D.lit device.now) cylinders → RootsRead (D.blocks device.now) result }
+pub fn root_entries<D: Device>(device: &D) -> Result<[Entry; 256], PowerCut>
+    ensures { Ready (D.blocks device.now) (D.lit device.now) (cylinders_of (D.blocks device.now)) → RootsRead (D.blocks device.now) result }
 {
     let mut roots = [Entry::Free; 256];
+    let cylinders = cylinders(device);
     for cylinder in 0..cylinders {
         if let Some(entries) = load_map(device, cylinder, cylinders)? {
             note_roots(&mut roots, cylinder, &entries);
@@ -36,6 +34,8 @@ pub fn root_entries<D: Device>(device: &D, cylinders: u8) -> Result<[Entry; 256]
     }
     Ok(roots)
 }
+
+// The two rules below have one shape: a function that takes the test and a closure would be longer.
 
 /// Settles each map that needs it.
 #[derive(Clone, Copy)]
@@ -75,11 +75,11 @@ impl MapRule for Clearing {
 
 /// Settles every map that needs it, and then clears every commit bit. The answer is how many stores
 /// that took.
-pub fn finish<D: Device>(device: &mut D, cylinders: u8) -> Result<u32, PowerCut>
-    ensures { Carries D.Device device.old cylinders finish_plan result device.new }
+pub fn finish<D: Device>(device: &mut D) -> Result<u32, PowerCut>
+    ensures { CarriesAll D.Device device.old finish_plan result device.new }
 {
-    let roots = root_entries(device, cylinders)?;
-    let settled = pass(device, &Settling { roots }, cylinders)?;
-    let cleared = pass(device, &Clearing, cylinders)?;
+    let roots = root_entries(device)?;
+    let settled = pass(device, &Settling { roots })?;
+    let cleared = pass(device, &Clearing)?;
     Ok(settled + cleared)
 }

@@ -10,7 +10,7 @@ mod passes;
 mod row;
 mod rows;
 
-pub use blocks::{PowerCut, load, load_map, load_root, put};
+pub use blocks::{cylinders, load, load_map, load_root};
 pub use committing::{CommitBit, NewRoot, commit, create};
 pub use finishing::{Clearing, Settling, finish, root_entries};
 pub use mark::Marking;

@@ -1,87 +1,12 @@
 // Marking the intentions of a transaction in the maps.
-ghost use Rattle.std.specs.Prelude.{◌≡◌, ◌+◌, ◌*◌, Bool};
-ghost use Rattle.journal.specs.Marking.{same_object, gives_up, intends, intended, mark_rule};
+ghost use Rattle.std.specs.Prelude.{◌≡◌, ◌*◌, if◌then◌else◌, Some, None};
+ghost use Rattle.journal.specs.Marking.{gives_up, intends, intended, mark_rule};
 ghost use Rattle.journal.specs.Rules.{each_at, any_at};
 
 use crate::passes::MapRule;
 use crate::row::Row;
 use crate::rows::{position_of, row_of};
-use map::{DataState, Entry, Identifier};
-
-fn is_same(x: Identifier, y: Identifier) -> bool
-    ensures { result ≡ same_object x y }
-{
-    x.tag() == y.tag() && x.root() == y.root()
-}
-
-// Whether an allocated block of `held` at a position is given up.
-fn is_given_up(owner: Identifier, rows: &[Row; 64], position: u8, held: Identifier) -> bool
-    ensures { result ≡ gives_up owner rows.now position held }
-{
-    is_same(held, owner) && row_of(rows, position).is_touched()
-}
-
-// The entry of a block with the intention that the rows give it, and whether they give it one.
-fn mark_entry(entry: Entry, a: u16, owner: Identifier, rows: &[Row; 64]) -> (Entry, bool)
-    ensures entry { result.0 ≡ intended owner rows.now a entry }
-    ensures intends { result.1 ≡ intends owner rows.now a entry }
-{
-    match entry {
-        Entry::Free => match position_of(rows, a) {
-            Some(position) => {
-                let state = DataState::IntendingToAllocate;
-                (
-                    Entry::Data {
-                        state,
-                        position,
-                        owner,
-                    },
-                    true,
-                )
-            }
-            None => (entry, false),
-        },
-        Entry::Data {
-            state: DataState::Allocated,
-            position,
-            owner: held,
-        } => {
-            if is_given_up(owner, rows, position, held) {
-                let state = DataState::IntendingToDeallocate;
-                (
-                    Entry::Data {
-                        state,
-                        position,
-                        owner: held,
-                    },
-                    true,
-                )
-            } else {
-                (entry, false)
-            }
-        }
-        _ => (entry, false),
-    }
-}
-
-// Marks the intentions of the rows in a cylinder's map. The answer is whether there were any.
-fn mark_map(entries: &mut [Entry; 32], cylinder: u8, owner: Identifier, rows: &[Row; 64]) -> bool
-    ensures value { result ≡ any_at (intends owner rows.now) (32 * cylinder) entries.old }
-    ensures after { entries.new ≡ each_at (intended owner rows.now) (32 * cylinder) entries.old }
-{
-    let mut any = false;
-    for s in 0..32 {
-        let (entry, intends) = mark_entry(
-            entries[s],
-            32 * u16::from(cylinder) + s as u16,
-            owner,
-            rows,
-        );
-        entries[s] = entry;
-        any |= intends;
-    }
-    any
-}
+use map::{DataState, Entry, Identifier, join};
 
 /// The intentions of a transaction on one object.
 #[derive(Clone, Copy)]
@@ -90,15 +15,61 @@ pub struct Marking {
     pub rows: [Row; 64],
 }
 
+impl Marking {
+    // Whether an allocated block of `held` at a position is given up.
+    fn gives_up(&self, position: u8, held: Identifier) -> bool
+        ensures { result ≡ gives_up self.now.owner self.now.rows position held }
+    {
+        held == self.owner && row_of(&self.rows, position).is_touched()
+    }
+
+    // The entry of a block with the intention that the rows give it, if they give it one.
+    fn mark_entry(&self, a: u16, entry: Entry) -> Option<Entry>
+        ensures { result ≡ (if intends self.now.owner self.now.rows a entry then Some (intended self.now.owner self.now.rows a entry) else None) }
+    {
+        match entry {
+            Entry::Free => {
+                let position = position_of(&self.rows, a)?;
+                Some(Entry::Data {
+                    state: DataState::IntendingToAllocate,
+                    position,
+                    owner: self.owner,
+                })
+            }
+            Entry::Data {
+                state: DataState::Allocated,
+                position,
+                owner,
+            } if self.gives_up(position, owner) => Some(Entry::Data {
+                state: DataState::IntendingToDeallocate,
+                position,
+                owner,
+            }),
+            _ => None,
+        }
+    }
+
+    // Marks the intentions in a cylinder's map. The answer is whether there were any.
+    fn mark_map(&self, cylinder: u8, entries: &mut [Entry; 32]) -> bool
+        ensures value { result ≡ any_at (intends self.now.owner self.now.rows) (32 * cylinder) entries.old }
+        ensures after { entries.new ≡ each_at (intended self.now.owner self.now.rows) (32 * cylinder) entries.old }
+    {
+        let mut any = false;
+        for (s, entry) in entries.iter_mut().enumerate() {
+            if let Some(marked) = self.mark_entry(join(cylinder, s as u8), *entry) {
+                *entry = marked;
+                any = true;
+            }
+        }
+        any
+    }
+}
+
 impl MapRule for Marking {
     ghost rule = { λ s. mark_rule s.owner s.rows };
 
     fn changed(&self, cylinder: u8, entries: &[Entry; 32]) -> Option<[Entry; 32]> {
         let mut marked = *entries;
-        if mark_map(&mut marked, cylinder, self.owner, &self.rows) {
-            Some(marked)
-        } else {
-            None
-        }
+        self.mark_map(cylinder, &mut marked).then_some(marked)
     }
 }

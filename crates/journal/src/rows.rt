@@ -4,16 +4,14 @@ ghost use Rattle.journal.specs.Rows.{is_touched, is_new, cleared_row, row_of, po
 ghost use Rattle.journal.specs.declared.row.Row.TheVariants.{New};
 
 use crate::row::Row;
+use std::array;
 
 impl Row {
     /// Whether the position is to change.
     pub fn is_touched(self) -> bool
         ensures { result ≡ is_touched self }
     {
-        match self {
-            Row::Untouched => false,
-            Row::New(_) | Row::Cleared => true,
-        }
+        self != Row::Untouched
     }
 
     /// The position is to have this new block.
@@ -34,14 +32,22 @@ impl Row {
         };
     }
 
+    /// The address that the position is to have, where it has `old`.
+    pub fn address(self, old: u16) -> u16
+        ensures { result ≡ new_address self old }
+    {
+        match self {
+            Row::Untouched => old,
+            Row::New(block) => block,
+            Row::Cleared => 0,
+        }
+    }
+
     // Whether the row holds this new block.
     fn is_new(self, a: u16) -> bool
         ensures { result ≡ is_new a self }
     {
-        match self {
-            Row::New(b) => b == a,
-            Row::Untouched | Row::Cleared => false,
-        }
+        self == Row::New(a)
     }
 }
 
@@ -49,42 +55,21 @@ impl Row {
 pub fn row_of(rows: &[Row; 64], position: u8) -> Row
     ensures { result ≡ row_of rows.now position }
 {
-    match rows.get(usize::from(position)) {
-        Some(row) => *row,
-        None => Row::Untouched,
-    }
+    rows.get(usize::from(position))
+        .copied()
+        .unwrap_or(Row::Untouched)
 }
 
 /// The position whose row holds this new block.
 pub fn position_of(rows: &[Row; 64], a: u16) -> Option<u8>
     ensures { result ≡ position_of rows.now a }
 {
-    for (p, row) in rows.iter().enumerate() {
-        if row.is_new(a) {
-            return Some(p as u8);
-        }
-    }
-    None
-}
-
-// The address that a position is to have.
-fn new_address(row: Row, old: u16) -> u16
-    ensures { result ≡ new_address row old }
-{
-    match row {
-        Row::Untouched => old,
-        Row::New(block) => block,
-        Row::Cleared => 0,
-    }
+    rows.iter().position(|row| row.is_new(a)).map(|p| p as u8)
 }
 
 /// The addresses that the positions are to have.
 pub fn new_addresses(rows: &[Row; 64], old: &[u16; 64]) -> [u16; 64]
     ensures { result ≡ new_addresses rows.now old.now }
 {
-    let mut new = [0; 64];
-    for p in 0..64 {
-        new[p] = new_address(rows[p], old[p]);
-    }
-    new
+    array::from_fn(|p| rows[p].address(old[p]))
 }

@@ -2,3 +2,4 @@ pub mod Filling
 pub mod Past
 pub mod ReadingOn
 pub mod StagedWords
+pub mod Zeros

@@ -1,14 +1,12 @@
 // Finding an object by its identifier.
 ghost use Rattle.std.specs.Prelude.{◌≡◌};
-ghost use Rattle.journal.specs.Carried.{Tells};
-ghost use Rattle.journal.specs.Marking.{same_object};
+ghost use Rattle.journal.specs.Carried.{TellsAll};
 ghost use Rattle.lookup.specs.Finding.{found_root, found_by, found, no_blocks, held};
-ghost use Rattle.map.specs.declared.entry.Entry.{Entry as MapEntry};
 ghost use Rattle.volume.specs.Volume.{entry_at, root_at};
 
 use crate::objects::Object;
-use device::Device;
-use journal::{PowerCut, load_map, load_root};
+use device::{Device, PowerCut};
+use journal::{cylinders, load_map, load_root};
 use map::{Entry, Identifier, Kind, RootState, split};
 use object::RootBlock;
 
@@ -17,39 +15,36 @@ fn object_in(id: Identifier, kind: Kind, root: Option<RootBlock>) -> Option<Obje
     ensures { result ≡ found_root id kind root }
 {
     match root {
-        Some(RootBlock::Live(root)) => {
-            if root.id.tag() == id.tag() && root.id.root() == id.root() {
-                let blocks = root.blocks;
-                Some(Object { id, kind, blocks })
-            } else {
-                None
-            }
+        Some(RootBlock::Live(root)) if root.id == id => {
+            let blocks = root.blocks;
+            Some(Object { id, kind, blocks })
         }
         _ => None,
     }
 }
 
 // The entry of an address; free where its map cannot be used.
-fn entry_of<D: Device>(device: &D, a: u32, cylinders: u8) -> Result<Entry, PowerCut>
-    ensures { Tells D.Device device.now cylinders (λ all. entry_at all a) result }
+fn entry_of<D: Device>(device: &D, a: u32) -> Result<Entry, PowerCut>
+    ensures { TellsAll D.Device device.now (λ all. entry_at all a) result }
 {
     let (cylinder, sector) = split(a);
     let Ok(cylinder) = u8::try_from(cylinder) else {
         return Ok(Entry::Free);
     };
-    match load_map(device, cylinder, cylinders)? {
-        Some(entries) => Ok(entries[sector as usize]),
-        None => Ok(Entry::Free),
-    }
+    let entries = load_map(device, cylinder, cylinders(device))?;
+    let entry = entries
+        .as_ref()
+        .map_or(Entry::Free, |entries| entries[sector as usize]);
+    Ok(entry)
 }
 
 // The root block of an address; none where it cannot be used or is no root place.
-fn root_of<D: Device>(device: &D, a: u32, cylinders: u8) -> Result<Option<RootBlock>, PowerCut>
-    ensures { Tells D.Device device.now cylinders (λ all. root_at all a) result }
+fn root_of<D: Device>(device: &D, a: u32) -> Result<Option<RootBlock>, PowerCut>
+    ensures { TellsAll D.Device device.now (λ all. root_at all a) result }
 {
     let (_, sector) = split(a);
     if sector >= 1 && sector <= 4 {
-        load_root(device, a, cylinders)
+        load_root(device, a, cylinders(device))
     } else {
         Ok(None)
     }
@@ -71,15 +66,11 @@ fn object_by(id: Identifier, entry: Entry, root: Option<RootBlock>) -> Option<Ob
 }
 
 /// The object of this identifier, if it exists.
-pub fn find<D: Device>(
-    device: &D,
-    id: Identifier,
-    cylinders: u8,
-) -> Result<Option<Object>, PowerCut>
-    ensures { Tells D.Device device.now cylinders (λ all. found all id) result }
+pub fn find<D: Device>(device: &D, id: Identifier) -> Result<Option<Object>, PowerCut>
+    ensures { TellsAll D.Device device.now (λ all. found all id) result }
 {
-    let entry = entry_of(device, id.root(), cylinders)?;
-    let root = root_of(device, id.root(), cylinders)?;
+    let entry = entry_of(device, id.root())?;
+    let root = root_of(device, id.root())?;
     Ok(object_by(id, entry, root))
 }
 
@@ -91,15 +82,13 @@ pub fn no_blocks() -> [u16; 64]
 }
 
 /// The object of this identifier; one without blocks if it does not exist.
-pub fn held<D: Device>(device: &D, id: Identifier, cylinders: u8) -> Result<Object, PowerCut>
-    ensures { Tells D.Device device.now cylinders (λ all. held all id) result }
+pub fn held<D: Device>(device: &D, id: Identifier) -> Result<Object, PowerCut>
+    ensures { TellsAll D.Device device.now (λ all. held all id) result }
 {
-    match find(device, id, cylinders)? {
-        Some(object) => Ok(object),
-        None => Ok(Object {
-            id,
-            kind: Kind::Special,
-            blocks: no_blocks(),
-        }),
-    }
+    let blank = Object {
+        id,
+        kind: Kind::Special,
+        blocks: no_blocks(),
+    };
+    Ok(find(device, id)?.unwrap_or(blank))
 }

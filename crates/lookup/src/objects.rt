@@ -7,5 +7,6 @@ use map::{Identifier, Kind};
 pub struct Object {
     pub id: Identifier,
     pub kind: Kind,
+    // as in the root block
     pub blocks: [u16; 64],
 }

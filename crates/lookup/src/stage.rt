@@ -12,9 +12,7 @@ fn staged_words(words: &[u16; 256], first: usize, new: &[u16]) -> [u16; 256]
     ensures { result ≡ staged words.now first new.now }
 {
     let mut staged = *words;
-    for (k, w) in new.iter().enumerate() {
-        staged[first + k] = *w;
-    }
+    staged[first..first + new.len()].copy_from_slice(new);
     staged
 }
 

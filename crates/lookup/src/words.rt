@@ -1,30 +1,19 @@
 // Reading the words of an object.
-ghost use Rattle.std.specs.Prelude.{◌≡◌, ℕ, ◌+◌, ◌*◌, ◌<◌, ◌≤◌, true, length, replicate, Ok, slice_index};
+ghost use Rattle.std.specs.Prelude.{◌≡◌, ℕ, ◌+◌, ◌*◌, ◌<◌, ◌≤◌, true, length, Ok, slice_index};
 ghost use Rattle.lookup.specs.Reading.{position_bytes, position_words, has_word, Filled, unreadable_in, words_read};
-ghost use Rattle.object.specs.Roots.{zeros};
 
-use device::Device;
-use journal::{PowerCut, load};
+use device::{Device, PowerCut};
+use journal::load;
 use object::words_of_block;
-
-// A position without a block.
-fn zero_block() -> [u8; 512]
-    ensures { result ≡ zeros }
-{
-    [0; 512]
-}
 
 /// The bytes of the block at address `a`; zeros if `a` is 0 or the block cannot be read.
 pub fn position_bytes<D: Device>(device: &D, a: u16) -> Result<[u8; 512], PowerCut>
     ensures { D.lit device.now ≡ true → result ≡ Ok (position_bytes (D.blocks device.now) a) }
 {
     if a == 0 {
-        return Ok(zero_block());
+        return Ok([0; 512]);
     }
-    match load(device, usize::from(a))? {
-        Some(bytes) => Ok(bytes),
-        None => Ok(zero_block()),
-    }
+    Ok(load(device, usize::from(a))?.unwrap_or([0; 512]))
 }
 
 /// The words of a position whose block is at address `a`: zeros if `a` is 0, none if the block
@@ -35,10 +24,10 @@ pub fn position_words<D: Device>(device: &D, a: u16) -> Result<Option<[u16; 256]
     if a == 0 {
         return Ok(Some([0; 256]));
     }
-    match load(device, usize::from(a))? {
-        Some(bytes) => Ok(Some(words_of_block(&bytes))),
-        None => Ok(None),
-    }
+    let Some(bytes) = load(device, usize::from(a))? else {
+        return Ok(None);
+    };
+    Ok(Some(words_of_block(&bytes)))
 }
 
 // Whether position `p` has one of `n` words from word `offset` on.
@@ -54,20 +43,12 @@ fn put_position(buffer: &mut [u16], offset: usize, p: usize, words: &[u16; 256])
     requires { p < 64 }
     ensures { (f : ℕ → ℕ) → ((i : ℕ) → i < 256 → slice_index words.now i ≡ f (256 * p + i)) → Filled f offset (256 * p) buffer.old → Filled f offset (256 * p + 256) buffer.new }
 {
+    // Word by word: a span that is copied at once would have to be cut to the buffer at both ends.
     for (i, w) in words.iter().enumerate() {
         let k = 256 * p + i;
         if k >= offset && k - offset < buffer.len() {
             buffer[k - offset] = *w;
         }
-    }
-}
-
-// Sets every word of the buffer to zero.
-fn clear(buffer: &mut [u16])
-    ensures { buffer.new ≡ replicate (length buffer.old) 0 }
-{
-    for w in buffer.iter_mut() {
-        *w = 0;
     }
 }
 
@@ -88,13 +69,11 @@ pub fn read_words<D: Device>(
         if !has_word(offset, buffer.len(), p) {
             continue;
         }
-        match position_words(device, *a)? {
-            Some(words) => put_position(buffer, offset, p, &words),
-            None => {
-                clear(buffer);
-                return Ok(Some(*a));
-            }
-        }
+        let Some(words) = position_words(device, *a)? else {
+            buffer.fill(0);
+            return Ok(Some(*a));
+        };
+        put_position(buffer, offset, p, &words);
     }
     Ok(None)
 }

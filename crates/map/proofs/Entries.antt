@@ -1,5 +1,6 @@
 -- Bytes of another length are no entry.
-use Rattle.std.proofs.Common.{◌≡◌, ℕ, Bool, true, false, cond, ◌&&◌, List, length, Some, None, Option, sym, refl, ap, ◌∙◌, ⊎_elim}
+use Rattle.std.proofs.Common.{◌≡◌, ℕ, true, false, cond, ◌&&◌, List, length, Some, None, Option, sym, refl, ap, ◌∙◌, ⊎_elim}
+use Rattle.std.proofs.Math.Bool.{and-false}
 use Rattle.std.proofs.lemmas.Slice.Eq.{bytes_eq-Decides}
 use Rattle.std.proofs.lemmas.Bool.{cases_Bool}
 use Rattle.std.specs.Str.{bytes_eq}
@@ -15,13 +16,9 @@ unlike a bytes e h =
     (λ f. f)
     (cases_Bool (bytes_eq (encoded_entry a e) bytes))
 
-and_false : (x : Bool) → (x && false) ≡ false
-and_false true = refl
-and_false false = refl
-
 pub decoded_none : (cylinders a : ℕ) (bytes : List ℕ) → (length bytes ≡ 16 → ⊥) → decoded_entry cylinders a bytes ≡ None
 decoded_none cylinders a bytes h = go (read_entry a bytes)
   where
     go : (o : Option Entry) → checked (fits_entry cylinders a) (encoded_entry a) bytes o ≡ None
     go None = refl
-    go (Some e) = ap (λ t. cond t (Some e) None) (ap (λ u. fits_entry cylinders a e && u) (unlike a bytes e h) ∙ and_false (fits_entry cylinders a e))
+    go (Some e) = ap (λ t. cond t (Some e) None) (ap (λ u. fits_entry cylinders a e && u) (unlike a bytes e h) ∙ and-false (fits_entry cylinders a e))

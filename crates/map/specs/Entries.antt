@@ -50,31 +50,36 @@ fits_entry cylinders a (Root state kind commit tag) = root_place a && is_tag tag
 fits_entry cylinders a (Data state position owner) =
     data_block a && nat_lt position 64 && nat_lt (cylinder_of owner.root) cylinders
 
--- byte 0 as a state; other values are caught where the bytes are compared
-abbrev pub root_state_of : ℕ → RootState
-root_state_of n = cond (n == 3) root_state.IntendingToDeallocate root_state.Allocated
+-- the state, or the kind, that a number stands for, if it stands for one
+abbrev pub root_state_of : ℕ → Option RootState
+root_state_of n = cond (n == 1) (Some root_state.Allocated) (cond (n == 3) (Some root_state.IntendingToDeallocate) None)
 
-abbrev pub data_state_of : ℕ → DataState
-data_state_of n = cond (n == 1) data_state.Allocated (cond (n == 2) data_state.IntendingToAllocate data_state.IntendingToDeallocate)
+abbrev pub data_state_of : ℕ → Option DataState
+data_state_of n =
+    cond (n == 1) (Some data_state.Allocated)
+    (cond (n == 2) (Some data_state.IntendingToAllocate)
+    (cond (n == 3) (Some data_state.IntendingToDeallocate) None))
 
 abbrev pub kind_of : ℕ → Option Kind
 kind_of n = cond (n == 1) (Some kind.Normal) (cond (n == 2) (Some kind.Special) (cond (n == 3) (Some kind.Index) None))
 
-abbrev pub read_root : ℕ → Option Kind → ℕ → ℕ → Option Entry
-read_root state None commit tag = None
-read_root state (Some kind) commit tag = Some (Root (root_state_of state) kind (commit == 1) tag)
+abbrev pub read_root : Option RootState → Option Kind → ℕ → ℕ → Option Entry
+read_root None kind commit tag = None
+read_root (Some state) None commit tag = None
+read_root (Some state) (Some kind) commit tag = Some (Root state kind (commit == 1) tag)
 
-abbrev pub read_data : ℕ → ℕ → Option Identifier → Option Entry
-read_data state position None = None
-read_data state position (Some owner) = Some (Data (data_state_of state) position owner)
+abbrev pub read_data : Option DataState → ℕ → Option Identifier → Option Entry
+read_data None position owner = None
+read_data (Some state) position None = None
+read_data (Some state) position (Some owner) = Some (Data state position owner)
 
 abbrev pub read_entry : ℕ → List ℕ → Option Entry
 read_entry a bytes =
     cond (sector_of a == 0) (Some Map)
     (cond (slice_index bytes 0 == 0) (Some Free)
     (cond (nat_lt (sector_of a) 5)
-    (read_root (slice_index bytes 0) (kind_of (slice_index bytes 1)) (slice_index bytes 2) (number4 bytes 8))
-    (read_data (slice_index bytes 0) (slice_index bytes 3) (identified (number4 bytes 8) (number4 bytes 12)))))
+    (read_root (root_state_of (slice_index bytes 0)) (kind_of (slice_index bytes 1)) (slice_index bytes 2) (number4 bytes 8))
+    (read_data (data_state_of (slice_index bytes 0)) (slice_index bytes 3) (identified (number4 bytes 8) (number4 bytes 12)))))
 
 abbrev pub decoded_entry : ℕ → ℕ → List ℕ → Option Entry
 decoded_entry cylinders a bytes = checked (fits_entry cylinders a) (encoded_entry a) bytes (read_entry a bytes)

@@ -10,3 +10,10 @@ pub fn split(a: u32) -> (u32, u32)
 {
     (a / 32, a % 32)
 }
+
+/// The address of a sector of a cylinder.
+pub fn join(cylinder: u8, sector: u8) -> u16
+    ensures { result ≡ 32 * cylinder + sector }
+{
+    32 * u16::from(cylinder) + u16::from(sector)
+}

@@ -2,6 +2,7 @@
 ghost use Rattle.std.specs.Prelude.{◌≡◌, ◌+◌, ◌*◌, ◌<◌};
 ghost use Rattle.map.specs.Maps.{decoded_sector, decoded_map, encoded_map, MapBytesReturn, MapEntriesReturn};
 
+use crate::address::join;
 use crate::entry::Entry;
 
 // The address of a sector.
@@ -9,7 +10,7 @@ fn address(cylinder: u8, sector: usize) -> u32
     requires { sector < 32 }
     ensures { result ≡ 32 * cylinder + sector }
 {
-    32 * u32::from(cylinder) + sector as u32
+    u32::from(join(cylinder, sector as u8))
 }
 
 // The entry of one sector, from its part of the block.
@@ -27,8 +28,8 @@ pub fn decode_map(block: &[u8; 512], cylinder: u8, cylinders: u8) -> Option<[Ent
     ensures { result ≡ decoded_map cylinders cylinder block.now }
 {
     let mut entries = [Entry::Map; 32];
-    for s in 0..32 {
-        entries[s] = decode_sector(block, s, cylinder, cylinders)?;
+    for (s, entry) in entries.iter_mut().enumerate() {
+        *entry = decode_sector(block, s, cylinder, cylinders)?;
     }
     Some(entries)
 }

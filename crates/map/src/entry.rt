@@ -1,6 +1,11 @@
-// What a cylinder map says of one sector.
+// What a cylinder map says of one sector, and the number that stands for each state.
+ghost use Rattle.std.specs.Prelude.{◌≡◌, ok_or};
+ghost use Rattle.map.specs.Entries.{root_state_number, data_state_number, root_state_of, data_state_of};
+
 use crate::identifier::Identifier;
 use crate::kind::Kind;
+use std::error::Error;
+use std::fmt;
 
 /// The state of a root place that an object holds.
 #[derive(Clone, Copy, PartialEq, Eq, Debug)]
@@ -21,6 +26,10 @@ pub enum DataState {
     /// 3
     IntendingToDeallocate,
 }
+
+/// A number that stands for no state.
+#[derive(Clone, Copy, PartialEq, Eq, Debug)]
+pub struct NoState(pub u8);
 
 /// The entry of one sector.
 #[derive(Clone, Copy, PartialEq, Eq, Debug)]
@@ -43,3 +52,63 @@ pub enum Entry {
         owner: Identifier,
     },
 }
+
+impl From<RootState> for u8 {
+    ghost from_gives = { λ state n. n ≡ root_state_number state };
+
+    fn from(state: RootState) -> u8 {
+        match state {
+            RootState::Allocated => 1,
+            RootState::IntendingToDeallocate => 3,
+        }
+    }
+}
+
+impl TryFrom<u8> for RootState {
+    type Error = NoState;
+
+    ghost try_from_gives = { λ n r. r ≡ ok_or (root_state_of n) (record { 0 = n }) };
+
+    fn try_from(n: u8) -> Result<RootState, NoState> {
+        match n {
+            1 => Ok(RootState::Allocated),
+            3 => Ok(RootState::IntendingToDeallocate),
+            _ => Err(NoState(n)),
+        }
+    }
+}
+
+impl From<DataState> for u8 {
+    ghost from_gives = { λ state n. n ≡ data_state_number state };
+
+    fn from(state: DataState) -> u8 {
+        match state {
+            DataState::Allocated => 1,
+            DataState::IntendingToAllocate => 2,
+            DataState::IntendingToDeallocate => 3,
+        }
+    }
+}
+
+impl TryFrom<u8> for DataState {
+    type Error = NoState;
+
+    ghost try_from_gives = { λ n r. r ≡ ok_or (data_state_of n) (record { 0 = n }) };
+
+    fn try_from(n: u8) -> Result<DataState, NoState> {
+        match n {
+            1 => Ok(DataState::Allocated),
+            2 => Ok(DataState::IntendingToAllocate),
+            3 => Ok(DataState::IntendingToDeallocate),
+            _ => Err(NoState(n)),
+        }
+    }
+}
+
+impl fmt::Display for NoState {
+    fn fmt<W: fmt::Write>(&self, f: &mut fmt::Formatter<W>) -> fmt::Result {
+        write!(f, "no state has number {}", self.0)
+    }
+}
+
+impl Error for NoState {}

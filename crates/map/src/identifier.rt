@@ -18,11 +18,8 @@ impl Identifier {
         ensures { result ≡ identified tag root }
     {
         let (cylinder, sector) = split(root);
-        if tag > 0 && sector >= 1 && sector <= 4 && cylinder < 64 {
-            Some(Identifier { tag, root })
-        } else {
-            None
-        }
+        let named = tag > 0 && (1..=4).contains(&sector) && cylinder < 64;
+        named.then_some(Identifier { tag, root })
     }
 
     /// The tag.

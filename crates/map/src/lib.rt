@@ -9,9 +9,9 @@ mod examples;
 mod identifier;
 mod kind;
 
-pub use address::split;
+pub use address::{join, split};
 pub use cylinder::{decode_map, encode_map, maps_return};
-pub use entry::{DataState, Entry, RootState};
+pub use entry::{DataState, Entry, NoState, RootState};
 pub use examples::map_examples_hold;
 pub use identifier::Identifier;
-pub use kind::Kind;
+pub use kind::{Kind, NoKind};

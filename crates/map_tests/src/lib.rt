@@ -4,7 +4,10 @@
 
 #[cfg(test)]
 mod tests {
-    use map::{DataState, Entry, Identifier, Kind, RootState, decode_map, encode_map, split};
+    use map::{
+        DataState, Entry, Identifier, Kind, NoKind, NoState, RootState, decode_map, encode_map,
+        split,
+    };
     use std::process::Abort;
     use std::test::Fail;
 
@@ -191,6 +194,41 @@ mod tests {
     }
 
     #[test]
+    fn numbers_stand_for_kinds_and_states(rt: HostRuntime) -> Result<(), Fail> {
+        for (n, kind) in [(1, Kind::Normal), (2, Kind::Special), (3, Kind::Index)] {
+            assert_eq!(rt; u8::from(kind), n);
+            assert_eq!(rt; Kind::try_from(n), Ok(kind));
+        }
+        for (n, state) in [
+            (1, RootState::Allocated),
+            (3, RootState::IntendingToDeallocate),
+        ] {
+            assert_eq!(rt; u8::from(state), n);
+            assert_eq!(rt; RootState::try_from(n), Ok(state));
+        }
+        for (n, state) in [
+            (1, DataState::Allocated),
+            (2, DataState::IntendingToAllocate),
+            (3, DataState::IntendingToDeallocate),
+        ] {
+            assert_eq!(rt; u8::from(state), n);
+            assert_eq!(rt; DataState::try_from(n), Ok(state));
+        }
+        for n in [0, 4, 255] {
+            assert_eq!(rt; Kind::try_from(n), Err(NoKind(n)));
+            assert_eq!(rt; RootState::try_from(n), Err(NoState(n)));
+            assert_eq!(rt; DataState::try_from(n), Err(NoState(n)));
+        }
+        assert_eq!(rt; RootState::try_from(2), Err(NoState(2)));
+        let text = format!(in rt.alloc(); "{}, {}", NoKind(4), NoState(0))?;
+        assert_eq!(rt;
+            text.as_str(),
+            "no kind has number 4, no state has number 0"
+        );
+        Ok(())
+    }
+
+    #[test]
     fn empty_map_returns_and_no_entry_of_it_may_be_wrong(rt: HostRuntime) -> Result<(), Fail> {
         for cylinder in [0, 1] {
             let mut block = [0; 512];
@@ -217,30 +255,33 @@ mod tests {
     fn full_map_has_each_entry_in_its_place(rt: HostRuntime) -> Result<(), Fail> {
         let mut block = [0; 512];
         let mut entries = [Entry::Map; 32];
-        block[0] = 1;
-        for s in 1..32u8 {
-            let sector = usize::from(s);
+        for (sector, entry) in entries.iter_mut().enumerate() {
+            let s = sector as u8;
             let at = 16 * sector;
             block[at] = 1;
             block[at + 8] = s;
-            if s < 5 {
-                block[at + 1] = 2;
-                block[at + 12] = s;
-                entries[sector] = Entry::Root {
-                    state: RootState::Allocated,
-                    kind: Kind::Special,
-                    commit: false,
-                    tag: u32::from(s),
-                };
-            } else {
-                block[at + 3] = s;
-                block[at + 12] = 1;
-                entries[sector] = Entry::Data {
-                    state: DataState::Allocated,
-                    position: s,
-                    owner: Identifier::new(u32::from(s), 1).ok_or("an owner")?,
-                };
-            }
+            *entry = match s {
+                0 => Entry::Map,
+                1..=4 => {
+                    block[at + 1] = 2;
+                    block[at + 12] = s;
+                    Entry::Root {
+                        state: RootState::Allocated,
+                        kind: Kind::Special,
+                        commit: false,
+                        tag: u32::from(s),
+                    }
+                }
+                _ => {
+                    block[at + 3] = s;
+                    block[at + 12] = 1;
+                    Entry::Data {
+                        state: DataState::Allocated,
+                        position: s,
+                        owner: Identifier::new(u32::from(s), 1).ok_or("an owner")?,
+                    }
+                }
+            };
         }
         assert!(rt; decode_map(&block, 0, 2) == Some(entries));
         assert!(rt; encode_map(&entries, 0) == block);
@@ -277,10 +318,8 @@ mod tests {
             (1, u32::MAX, false),
             (1, u32::MAX - 27, false),
         ] {
-            match Identifier::new(tag, root) {
-                Some(made) => assert!(rt; good && made.tag() == tag && made.root() == root),
-                None => assert!(rt; !good),
-            }
+            let made = Identifier::new(tag, root).map(|id| (id.tag(), id.root()));
+            assert_eq!(rt; made, good.then_some((tag, root)));
         }
     }
 }

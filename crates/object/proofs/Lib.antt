@@ -1,4 +1,5 @@
 mod Entries
+pub mod Made
 mod Placing
 pub mod RootLaws
 mod WordLaws

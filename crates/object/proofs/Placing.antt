@@ -1,7 +1,7 @@
 -- What stands in a block after bytes were put into it, byte by byte.
 use Rattle.std.proofs.Common.{◌≡◌, ℕ, ◌+◌, ◌-◌, ◌*◌, ◌<◌, ◌≤◌, List, [], ◌++◌, length, get_or, take, drop, sym, refl, ap, ◌∙◌, ap₂, arith}
 use borrow.Rule.Slice.PartMut.{put_mid}
-use Rattle.std.proofs.lemmas.List.{length-append, length-take, length-take-le, length-drop, get_or_append_left, get_or-append_right, get_or-take, get_or-drop, take_at, append_assoc, drop_at, drop-drop, take-append-drop}
+use Rattle.std.proofs.lemmas.List.{length-append, length-take, length-take-le, length-drop, get_or_append_left, get_or-append_right, get_or-take, get_or-drop, take_at, append_assoc, drop_at, drop-drop, take-append-drop, append-nil, drop_all}
 use Rattle.map.specs.Bytes.{number4, placed}
 
 -- as the checker writes a write to a part
@@ -12,6 +12,10 @@ placed_from_part at k block bytes e = ap (λ tail. take at block ++ (bytes ++ ta
 pub placed_nothing : (at : ℕ) (block : List ℕ) → placed at [] block ≡ block
 unfolding placed
 placed_nothing at block = ap (λ n. take at block ++ drop n block) (omega arith) ∙ take-append-drop at block
+
+pub placed_whole : (bytes block : List ℕ) → length bytes ≡ length block → placed 0 bytes block ≡ bytes
+unfolding placed
+placed_whole bytes block e = ap (λ rest. bytes ++ rest) (drop_all (0 + length bytes) block (omega arith)) ∙ append-nil bytes
 
 module _ (at : ℕ) (bytes block : List ℕ) (within : at + length bytes ≤ length block) where
   front : length (take at block) ≡ at

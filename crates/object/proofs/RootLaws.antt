@@ -7,9 +7,8 @@ use Rattle.map.specs.ByteLaws.{number_of_le4, identified_again}
 use Rattle.map.specs.Bytes.{le4, number4, placed}
 use Rattle.map.specs.Checked.{checked_bytes, checked_back}
 use Rattle.map.specs.Entries.{kind_number, kind_of}
+use Rattle.map.specs.EntryLaws.{kind_back}
 use Rattle.map.specs.Identifiers.{is_tag, is_identifier, identified}
-use Rattle.map.specs.declared.kind.Kind.{Kind}
-use Rattle.map.specs.declared.kind.Kind.TheVariants as kind
 use Rattle.object.specs.Roots.{zeros, encoded_root, fits_root, addresses_in, read_live, read_root_block, decoded_root, Formed, RootsReturn}
 use Rattle.object.specs.Words.{word_at, bytes_of}
 use Rattle.object.specs.declared.root.Root.{Root}
@@ -21,11 +20,6 @@ use Rattle.object.proofs.WordLaws.{bytes_long, low_byte, high_byte, word_of_le2}
 zeros_long : length zeros ≡ 512
 unfolding zeros
 zeros_long = refl
-
-kind_again : (k : Kind) → kind_of (kind_number k) ≡ Some k
-kind_again kind.Normal = refl
-kind_again kind.Special = refl
-kind_again kind.Index = refl
 
 -- the layers of a live root block, each put over the one before
 module _ (root : Root) (proper : is_identifier root.id.tag root.id.root ≡ true) (many : length root.blocks ≡ 64)
@@ -105,7 +99,7 @@ module _ (root : Root) (proper : is_identifier root.id.tag root.id.root ≡ true
   unfolding block kinded rooted tagged
   live_back =
       let named : identified (number4 block 0) (number4 block 4) ≡ Some root.id = ap₂ identified tag_number root_number ∙ identified_again root.id proper in
-      let sort : kind_of (get_or block 8 0) ≡ Some root.kind = ap kind_of kind_byte ∙ kind_again root.kind in
+      let sort : kind_of (get_or block 8 0) ≡ Some root.kind = ap kind_of kind_byte ∙ kind_back root.kind in
       ap (λ t. cond t (Some Dead) (read_live (identified (number4 block 0) (number4 block 4)) (kind_of (get_or block 8 0)) (addresses_in block))) tag_there
       ∙ ap₂ (λ id k. read_live id k (addresses_in block)) named sort
       ∙ ap (λ xs. Some (Live (record { id = root.id; kind = root.kind; blocks = xs }))) addresses_back

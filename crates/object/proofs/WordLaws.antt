@@ -1,11 +1,11 @@
 -- Words of a block: one word put, and the round trips.
-use Rattle.std.proofs.Common.{◌≡◌, ℕ, zero, suc, ◌+◌, ◌*◌, ◌/◌, ◌%◌, ◌^◌, ◌<◌, ◌≤◌, ◌≢◌, List, [], ◌∷◌, ◌++◌, length, get_or, take, set, sym, refl, ap, ◌∙◌, ap₂, ⊎_elim, arith}
+use Rattle.std.proofs.Common.{◌≡◌, ℕ, zero, suc, ◌+◌, ◌-◌, ◌*◌, ◌/◌, ◌%◌, ◌^◌, ◌<◌, ◌≤◌, List, [], ◌∷◌, ◌++◌, length, get_or, take, sym, refl, ap, ◌∙◌, ap₂, ⊎_elim, arith}
 use Rattle.std.proofs.lemmas.List.FromFn.{length-map-range_with_len, get_or-map-range_with_len}
-use Rattle.std.proofs.lemmas.List.{length-set, length-take-le, get_or-set_same, get_or-set_other, ext_get_or, take_more}
-use Rattle.std.proofs.lemmas.Bool.{cases_eq, cases_order}
+use Rattle.std.proofs.lemmas.List.{length-take-le, ext_get_or, take_more}
+use Rattle.std.proofs.lemmas.Bool.{cases_eq, cases_lt}
 use Rattle.map.specs.Bytes.{placed}
 use Rattle.object.specs.Words.{le2, word_at, words_of, bytes_of, WordsReturn}
-use Rattle.object.proofs.Placing.{placed_below, placed_inside, placed_above, placed_on, take_placed}
+use Rattle.object.proofs.Placing.{placed_length, placed_below, placed_inside, placed_above, placed_on}
 
 pub words_long : (block : List ℕ) → length (words_of block) ≡ 256
 unfolding words_of
@@ -17,43 +17,6 @@ words_at block i h = get_or-map-range_with_len (word_at block) 0 256 i i 0 h (om
 
 pub word_of_le2 : (w : ℕ) → w < 2 ^ 16 → w % 256 + w / 256 % 256 * 256 ≡ w
 word_of_le2 w h = omega arith
-
-module _ (block : List ℕ) (i w : ℕ) (long : length block ≡ 512) (few : i < 256) (fits : w < 2 ^ 16) where
-  room : 2 * i + length (le2 w) ≤ length block
-  room = omega arith
-
-  word_here : word_at (placed (2 * i) (le2 w) block) i ≡ w
-  word_here =
-      let low : get_or (placed (2 * i) (le2 w) block) (2 * i) 0 ≡ w % 256 =
-      ap (λ n. get_or (placed (2 * i) (le2 w) block) n 0) (omega arith) ∙ placed_inside (2 * i) (le2 w) block room 0 (omega arith) in
-      let high : get_or (placed (2 * i) (le2 w) block) (2 * i + 1) 0 ≡ w / 256 % 256 = placed_inside (2 * i) (le2 w) block room 1 (omega arith) in
-      ap₂ (λ x y. x + y * 256) low high ∙ word_of_le2 w fits
-
-  word_there : (j : ℕ) → j ≢ i → word_at (placed (2 * i) (le2 w) block) j ≡ word_at block j
-  word_there j ne =
-      ⊎_elim
-      (λ (e : j ≡ i). absurd (ne e))
-      (⊎_elim
-      (λ (l : j < i). ap₂ (λ x y. x + y * 256) (placed_below (2 * i) (le2 w) block room (2 * j) (omega arith)) (placed_below (2 * i) (le2 w) block room (2 * j + 1) (omega arith)))
-      (λ (g : i < j). ap₂ (λ x y. x + y * 256) (placed_above (2 * i) (le2 w) block room (2 * j) (omega arith)) (placed_above (2 * i) (le2 w) block room (2 * j + 1) (omega arith))))
-      (cases_order j i)
-
-  pub word_put : words_of (placed (2 * i) (le2 w) block) ≡ set (words_of block) i w
-  word_put = ext_get_or 0 (words_of (placed (2 * i) (le2 w) block)) (set (words_of block) i w) sizes each
-    where
-      sizes : length (words_of (placed (2 * i) (le2 w) block)) ≡ length (set (words_of block) i w)
-      sizes = words_long (placed (2 * i) (le2 w) block) ∙ sym (length-set (words_of block) i w ∙ words_long block)
-
-      each : (j : ℕ) → j < length (words_of (placed (2 * i) (le2 w) block)) → get_or (words_of (placed (2 * i) (le2 w) block)) j 0 ≡ get_or (set (words_of block) i w) j 0
-      each j h =
-          let below : j < 256 = omega (arith, words_long (placed (2 * i) (le2 w) block)) in
-          ⊎_elim
-          (λ (e : j ≡ i).
-          let here : i < length (words_of block) = omega (arith, words_long block) in
-          words_at (placed (2 * i) (le2 w) block) j below ∙ ap (word_at (placed (2 * i) (le2 w) block)) e ∙ word_here
-          ∙ sym (ap (λ n. get_or (set (words_of block) i w) n 0) e ∙ get_or-set_same (words_of block) i w 0 here))
-          (λ ne. words_at (placed (2 * i) (le2 w) block) j below ∙ word_there j ne ∙ sym (words_at block j below) ∙ sym (get_or-set_other (words_of block) i j w 0 ne))
-          (cases_eq j i)
 
 pub bytes_long : (words : List ℕ) → length (bytes_of words) ≡ 2 * length words
 bytes_long [] = omega arith
@@ -77,16 +40,54 @@ bytes_append : (p q : List ℕ) → bytes_of (p ++ q) ≡ bytes_of p ++ bytes_of
 bytes_append [] q = refl
 bytes_append (w ∷ p) q = ap (λ rest. w % 256 ∷ w / 256 % 256 ∷ rest) (bytes_append p q)
 
--- one word more is written
-pub bytes_more : (words block : List ℕ) (i : ℕ) → i < length words → 2 * i + 2 ≤ length block → take (2 * i) block ≡ bytes_of (take i words) →
-    take (2 * (i + 1)) (placed (2 * i) (le2 (get_or words i 0)) block) ≡ bytes_of (take (i + 1) words)
-bytes_more words block i within room was =
-    let w = get_or words i 0 in
-    ap (λ n. take n (placed (2 * i) (le2 w) block)) (omega arith)
-    ∙ take_placed (2 * i) (le2 w) block (omega arith)
-    ∙ ap (λ xs. xs ++ le2 w) was
-    ∙ sym (bytes_append (take i words) (w ∷ []))
-    ∙ ap bytes_of (sym (take_more words i 0 within))
+-- words put into a block stand in the place of as many
+module _ (block new : List ℕ) (first : ℕ) (long : length block ≡ 512) (few : first + length new ≤ 256) (small : (i : ℕ) → get_or new i 0 < 2 ^ 16) where
+  put : List ℕ
+  put = placed (2 * first) (bytes_of new) block
+
+  room : 2 * first + length (bytes_of new) ≤ length block
+  room = omega (arith, bytes_long new)
+
+  words_room : first + length new ≤ length (words_of block)
+  words_room = omega (arith, words_long block)
+
+  word_inside : (k : ℕ) → k < length new → word_at put (first + k) ≡ get_or new k 0
+  unfolding put
+  word_inside k h =
+      let low : get_or put (2 * (first + k)) 0 ≡ get_or new k 0 % 256 =
+      ap (λ n. get_or put n 0) (omega arith) ∙ placed_inside (2 * first) (bytes_of new) block room (2 * k) (omega (arith, bytes_long new)) ∙ low_byte new k h in
+      let high : get_or put (2 * (first + k) + 1) 0 ≡ get_or new k 0 / 256 % 256 =
+      ap (λ n. get_or put n 0) (omega arith) ∙ placed_inside (2 * first) (bytes_of new) block room (2 * k + 1) (omega (arith, bytes_long new)) ∙ high_byte new k h in
+      ap₂ (λ x y. x + y * 256) low high ∙ word_of_le2 (get_or new k 0) (small k)
+
+  word_put : (j : ℕ) → j < 256 → get_or (words_of put) j 0 ≡ get_or (placed first new (words_of block)) j 0
+  unfolding put
+  word_put j below =
+      words_at put j below
+      ∙ ⊎_elim
+      (λ (l : j < first).
+      ap₂ (λ x y. x + y * 256) (placed_below (2 * first) (bytes_of new) block room (2 * j) (omega arith)) (placed_below (2 * first) (bytes_of new) block room (2 * j + 1) (omega arith))
+      ∙ sym (placed_below first new (words_of block) words_room j l ∙ words_at block j below))
+      (λ (g : first ≤ j).
+      ⊎_elim
+      (λ (l : j < first + length new).
+      let within : j - first < length new = omega arith in
+      let same : j ≡ first + (j - first) = omega arith in
+      ap (word_at put) same ∙ word_inside (j - first) within
+      ∙ sym (ap (λ n. get_or (placed first new (words_of block)) n 0) same ∙ placed_inside first new (words_of block) words_room (j - first) within))
+      (λ (past : first + length new ≤ j).
+      ap₂ (λ x y. x + y * 256) (placed_above (2 * first) (bytes_of new) block room (2 * j) (omega (arith, bytes_long new)))
+      (placed_above (2 * first) (bytes_of new) block room (2 * j + 1) (omega (arith, bytes_long new)))
+      ∙ sym (placed_above first new (words_of block) words_room j past ∙ words_at block j below))
+      (cases_lt j (first + length new)))
+      (cases_lt j first)
+
+  pub words_put : words_of (placed (2 * first) (bytes_of new) block) ≡ placed first new (words_of block)
+  unfolding put
+  words_put =
+      ext_get_or 0 (words_of put) (placed first new (words_of block))
+      (words_long put ∙ sym (placed_length first new (words_of block) words_room ∙ words_long block))
+      (λ j h. word_put j (omega (arith, words_long put)))
 
 low_of : (lo hi : ℕ) → lo < 256 → (lo + hi * 256) % 256 ≡ lo
 low_of lo hi h = omega arith
@@ -133,10 +134,10 @@ words_back words long small =
 pub words_return : WordsReturn
 words_return = record { bytes = block_back; words = words_back }
 
--- one address more behind those that were put at `at`
-pub addresses_more : (words block : List ℕ) (at i : ℕ) → i < length words → at + 2 * i + 2 ≤ length block →
+-- one word more behind those that were put at `at`
+pub words_more : (words block : List ℕ) (at i : ℕ) → i < length words → at + 2 * i + 2 ≤ length block →
     placed (at + 2 * i) (le2 (get_or words i 0)) (placed at (bytes_of (take i words)) block) ≡ placed at (bytes_of (take (i + 1) words)) block
-addresses_more words block at i within room =
+words_more words block at i within room =
     let front = bytes_of (take i words) in
     let w = get_or words i 0 in
     let long : length front ≡ 2 * i = bytes_long (take i words) ∙ ap (λ n. 2 * n) (length-take-le i words (omega arith)) in

@@ -4,7 +4,7 @@
 --   decoded_root   the root block whose bytes are exactly these, if it fits
 --   RootsReturn    the two round trips
 use Rattle.std.specs.Prelude.{◌≡◌, ℕ, ◌+◌, ◌^◌, ◌<◌, Bool, true, cond, ◌&&◌, ◌||◌, List, [], ◌∷◌, map, length, replicate, Some, None, Option, ◌==◌, nat_lt, slice_index}
-use Rattle.std.specs.List.{range_with_len}
+use Rattle.std.specs.List.{list_all, range_with_len}
 use Rattle.map.specs.Addresses.{cylinder_of, data_block}
 use Rattle.map.specs.Bytes.{le4, number4, placed}
 use Rattle.map.specs.Checked.{checked}
@@ -32,8 +32,7 @@ abbrev pub fits_address : ℕ → ℕ → Bool
 fits_address cylinders x = x == 0 || (data_block x && nat_lt (cylinder_of x) cylinders)
 
 abbrev pub all_fit : ℕ → List ℕ → Bool
-all_fit cylinders [] = true
-all_fit cylinders (x ∷ xs) = fits_address cylinders x && all_fit cylinders xs
+all_fit cylinders xs = list_all (fits_address cylinders) xs
 
 abbrev pub fits_root : ℕ → ℕ → RootBlock → Bool
 fits_root cylinders a Dead = true

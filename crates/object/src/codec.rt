@@ -1,33 +1,18 @@
 // The bytes of a root block, and back.
 ghost use Rattle.std.specs.Prelude.{◌≡◌};
-ghost use Rattle.map.specs.Bytes.{placed};
 ghost use Rattle.std.specs.Str.{bytes_eq};
 ghost use Rattle.object.specs.Roots.{encoded_root, fits_address, all_fit, fits_root, addresses_in, read_root_block, decoded_root, RootsReturn};
-ghost use Rattle.object.specs.Words.{bytes_of};
 
-use crate::bytes::{number_at, put_bytes};
+use crate::bytes::{number_at, put_bytes, put_words, word_at};
 use crate::root::{Root, RootBlock};
 use map::{Identifier, Kind};
-
-// The addresses, two bytes each, from byte 16 on.
-fn put_addresses(block: &mut [u8; 512], blocks: &[u16; 64])
-    ensures { block.new ≡ placed 16 (bytes_of blocks.now) block.old }
-{
-    for (i, x) in blocks.iter().enumerate() {
-        put_bytes(block, 16 + 2 * i, &x.to_le_bytes());
-    }
-}
+use std::array;
 
 // The 64 addresses of a block.
 fn addresses(block: &[u8; 512]) -> [u16; 64]
     ensures { result ≡ addresses_in block.now }
 {
-    let mut blocks = [0; 64];
-    for i in 0..64 {
-        let at = 2 * (8 + i);
-        blocks[i] = u16::from_le_bytes([block[at], block[at + 1]]);
-    }
-    blocks
+    array::from_fn(|i| word_at(block, 8 + i))
 }
 
 // Whether an address is 0 or a data block of this volume.
@@ -40,12 +25,7 @@ fn fits(x: u16, cylinders: u8) -> bool
 fn all_fit(blocks: &[u16; 64], cylinders: u8) -> bool
     ensures { result ≡ all_fit cylinders blocks.now }
 {
-    for x in blocks {
-        if !fits(*x, cylinders) {
-            return false;
-        }
-    }
-    true
+    blocks.iter().all(|x| fits(*x, cylinders))
 }
 
 impl RootBlock {
@@ -57,8 +37,8 @@ impl RootBlock {
         if let RootBlock::Live(root) = self {
             put_bytes(&mut block, 0, &root.id.tag().to_le_bytes());
             put_bytes(&mut block, 4, &root.id.root().to_le_bytes());
-            put_bytes(&mut block, 8, &[root.kind.number()]);
-            put_addresses(&mut block, &root.blocks);
+            put_bytes(&mut block, 8, &[u8::from(root.kind)]);
+            put_words(&mut block, 16, &root.blocks);
         }
         block
     }
@@ -82,7 +62,7 @@ impl RootBlock {
             return Some(RootBlock::Dead);
         }
         let id = Identifier::new(tag, number_at(block, 4))?;
-        let kind = Kind::from_number(block[8])?;
+        let kind = Kind::try_from(block[8]).ok()?;
         let blocks = addresses(block);
         Some(RootBlock::Live(Root { id, kind, blocks }))
     }
@@ -100,11 +80,7 @@ impl RootBlock {
         ensures { result ≡ decoded_root cylinders a block.now }
     {
         let root = RootBlock::read(block)?;
-        if root.fits(a, cylinders) && root.is_written(block) {
-            Some(root)
-        } else {
-            None
-        }
+        (root.fits(a, cylinders) && root.is_written(block)).then_some(root)
     }
 }
 

@@ -25,10 +25,7 @@ pub fn index_entry(block: &[u8; 512], e: u16) -> Option<Identifier>
 fn entry_bytes(id: Option<Identifier>) -> [u8; 8]
     ensures { result ≡ identifier_bytes id }
 {
-    let (tag, root) = match id {
-        Some(id) => (id.tag(), id.root()),
-        None => (0, 0),
-    };
+    let (tag, root) = id.map_or((0, 0), |id| (id.tag(), id.root()));
     let t = tag.to_le_bytes();
     let r = root.to_le_bytes();
     [t[0], t[1], t[2], t[3], r[0], r[1], r[2], r[3]]

@@ -7,6 +7,7 @@ use map::{Identifier, Kind};
 pub struct Root {
     pub id: Identifier,
     pub kind: Kind,
+    // 0 for none, as in the bytes: an Option would be turned into it and back at each end
     pub blocks: [u16; 64],
 }
 

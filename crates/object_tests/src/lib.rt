@@ -8,14 +8,13 @@ mod tests {
         Root, RootBlock, block_of_words, index_entry, index_place, replace_words, set_index_entry,
         words_of_block,
     };
+    use std::array;
     use std::test::Fail;
 
     // These bytes from `at` on, as far as they stay in the block.
     fn put(block: &mut [u8; 512], at: usize, bytes: &[u8]) {
-        for i in 0..512 {
-            if i >= at && i - at < bytes.len() {
-                block[i] = bytes[i - at];
-            }
+        for (old, new) in block.iter_mut().skip(at).zip(bytes) {
+            *old = *new;
         }
     }
 
@@ -103,10 +102,7 @@ mod tests {
 
     #[test]
     fn words_stand_low_byte_first(rt: HostRuntime) {
-        let mut block = [0; 512];
-        for i in 0..512 {
-            block[i] = (i % 256) as u8;
-        }
+        let block = array::from_fn(|i| (i % 256) as u8);
         let words = words_of_block(&block);
         for (i, w) in [
             (0, 0x0100),
@@ -122,14 +118,10 @@ mod tests {
 
     // Whether the words of a block are these from `first` on, and 0x0707 elsewhere.
     fn has_run(block: &[u8; 512], first: usize, new: &[u16]) -> bool {
-        let words = words_of_block(block);
-        for i in 0..256 {
-            let inside = i >= first && i - first < new.len();
-            if words[i] != (if inside { new[i - first] } else { 0x0707 }) {
-                return false;
-            }
-        }
-        true
+        words_of_block(block).iter().enumerate().all(|(i, word)| {
+            let placed = i.checked_sub(first).and_then(|k| new.get(k).copied());
+            *word == placed.unwrap_or(0x0707)
+        })
     }
 
     #[test]

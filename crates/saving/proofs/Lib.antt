@@ -1,3 +1,3 @@
 mod Copies
 mod Loading
-mod Verdicts
+mod Jobs

@@ -1,14 +1,14 @@
--- A read that is not done, of a lit device, finds an unreadable block.
-use Rattle.std.proofs.Common.{◌≡◌, ℕ, ◌<◌, Bool, true, List, length, sym, refl, ◌∙◌, arith}
+-- A read of a lit device that is not done finds an unreadable block.
+use Rattle.std.specs.Result.{result_ok}
+use Rattle.std.proofs.Common.{◌≡◌, ℕ, Bool, true, List, Ok, Err, Result, None, sym, ◌∙◌, arith}
 use Rattle.std.proofs.lemmas.Bool.{true≢false}
+use Rattle.std.proofs.lemmas.List.{get_or_past}
 use Rattle.device.specs.Blocks.{Block, block_at, Reads}
-use Rattle.device.specs.declared.answers.Reading.{Reading}
-use Rattle.device.specs.declared.answers.Reading.TheVariants as reading
+use Rattle.device.specs.declared.answers.ReadError.{ReadError}
+use Rattle.device.specs.declared.answers.ReadError.TheVariants as reading
 
-module _ (blocks : List Block) where
-  -- within a lit device, what is not read cannot be read
-  pub unread : (lit : Bool) (b : ℕ) (r : Reading) (old new : List ℕ) → b < length blocks → lit ≡ true → (r ≡ reading.Done → ⊥) → Reads blocks lit b r old new → block_at blocks b ≡ Block.unreadable
-  unread lit b reading.Outside old new within on other s = absurd (omega arith)
-  unread lit b reading.Dark old new within on other s = absurd (true≢false (sym on ∙ s.1))
-  unread lit b reading.Unreadable old new within on other s = s.2
-  unread lit b reading.Done old new within on other s = absurd (other refl)
+pub unread : (blocks : List Block) (lit : Bool) (b : ℕ) (r : Result (Unit {0}) ReadError) (old new : List ℕ) → lit ≡ true → result_ok r ≡ None → Reads blocks lit b r old new → block_at blocks b ≡ Block.unreadable
+unread blocks lit b (Ok x) old new on none s = absurd (let z : ◌≡◌ {A = ℕ} 0 1 = cc in omega arith)
+unread blocks lit b (Err reading.Outside) old new on none s = get_or_past blocks b Block.unreadable s.0
+unread blocks lit b (Err reading.Dark) old new on none s = absurd (true≢false (sym on ∙ s.1))
+unread blocks lit b (Err reading.Unreadable) old new on none s = s.2

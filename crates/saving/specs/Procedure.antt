@@ -2,22 +2,20 @@
 -- The job stands in blocks 0 to 7, the spare copy in 8 to 15, the marker in 16.
 --   copies         a job's parts, stored one after another; copies_marked: and then the marker
 --   save_plan      the new job to the spare blocks, the marker, the job over the old one, no marker
---   marker_of      whether a block says that the marker is there
+--   marker_of      whether a block says that the marker is set, if it can be read
 --   loaded         the parts that stand from an address on, if all can be read
 --   recovery_plan  if the marker is there, the spare copy over the job once more, and no marker
 --   Interrupted    a save, whole or cut, and then recoveries that were all cut
 --   History        the same, and at last a whole recovery
 --   Judged         what a verdict says of the blocks
 --   Replays        what a whole replay does
-use Rattle.std.specs.Prelude.{◌≡◌, ℕ, ◌+◌, ◌<◌, ◌≤◌, Bool, cond, List, [], ◌∷◌, ◌++◌, length, replicate, Some, None, MatchBool, Option, ◌==◌, ◌≢◌, slice_index}
+use Rattle.std.specs.Prelude.{◌≡◌, ℕ, ◌+◌, ◌<◌, ◌≤◌, Bool, true, false, not, List, [], ◌∷◌, ◌++◌, length, replicate, Some, None, MatchBool, Option, ◌==◌, ◌≢◌, slice_index}
 use Rattle.device.specs.Blocks.{Block, block_at}
 use Rattle.device.specs.Gathers.{gathered}
 use Rattle.device.specs.Plans.{Write, write, wrote, CutIn}
 use Rattle.saving.specs.declared.outcome.Outcome.{Outcome}
 use Rattle.saving.specs.declared.outcome.Outcome.TheVariants as outcome
 use Rattle.saving.specs.declared.outcome.Report.{Report}
-use Rattle.saving.specs.declared.procedure.Marker.{Marker}
-use Rattle.saving.specs.declared.procedure.Marker.TheVariants as marker
 
 abbrev pub copies : List (List ℕ) → ℕ → List Write
 copies [] from = []
@@ -33,9 +31,9 @@ copies_marked parts from mark = copies parts from ++ write 16 (marker_block mark
 abbrev pub save_plan : List (List ℕ) → List Write
 save_plan parts = copies_marked parts 8 1 ++ copies_marked parts 0 0
 
-abbrev pub marker_of : Block → Marker
-marker_of Block.unreadable = marker.Unreadable
-marker_of (Block.readable bytes) = cond (slice_index bytes 0 == 0) marker.Missing marker.There
+abbrev pub marker_of : Block → Option Bool
+marker_of Block.unreadable = None
+marker_of (Block.readable bytes) = Some (not (slice_index bytes 0 == 0))
 
 abbrev pub bytes_in : Block → Option (List ℕ)
 bytes_in Block.unreadable = None
@@ -44,11 +42,11 @@ bytes_in (Block.readable bytes) = Some bytes
 abbrev pub loaded : List Block → ℕ → ℕ → Option (List (List ℕ))
 loaded blocks from n = gathered (λ b. bytes_in (block_at blocks b)) from n
 
-abbrev pub recovers : Marker → Option (List (List ℕ)) → List Write
-recovers marker.Missing spare = []
-recovers marker.Unreadable spare = []
-recovers marker.There None = []
-recovers marker.There (Some parts) = copies_marked parts 0 0
+abbrev pub recovers : Option Bool → Option (List (List ℕ)) → List Write
+recovers None spare = []
+recovers (Some false) spare = []
+recovers (Some true) None = []
+recovers (Some true) (Some parts) = copies_marked parts 0 0
 
 abbrev pub recovery_plan : List Block → List Write
 recovery_plan blocks = recovers (marker_of (block_at blocks 16)) (loaded blocks 8 8)

@@ -1,4 +1,5 @@
 // How a replay ends.
+use std::fmt;
 
 /// What stands in the job's place when a replay has ended.
 #[derive(Clone, Copy, PartialEq, Eq, Debug)]
@@ -17,6 +18,20 @@ pub enum Outcome {
     Unfinished,
     /// The drive has fewer than 17 blocks. Nothing was stored.
     TooSmall,
+}
+
+impl fmt::Display for Outcome {
+    fn fmt<W: fmt::Write>(&self, f: &mut fmt::Formatter<W>) -> fmt::Result {
+        f.pad(match self {
+            Outcome::Old => "the whole old job",
+            Outcome::New => "the whole new job",
+            Outcome::Mixed => "a mixed job",
+            Outcome::PartUnreadable => "a part cannot be read",
+            Outcome::MarkerUnreadable => "the marker cannot be read",
+            Outcome::Unfinished => "power failed in every recovery",
+            Outcome::TooSmall => "the drive is too small",
+        })
+    }
 }
 
 /// What came of one replay.

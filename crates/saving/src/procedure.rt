@@ -7,10 +7,10 @@ ghost use Rattle.saving.specs.Procedure.{copies, marker_block, copies_marked, sa
 
 use crate::job::Job;
 use crate::outcome::{Outcome, Report};
-use device::{Device, Reading, Storing};
+use device::{Device, PowerCut, put};
 
 // where the spare copy of the job begins, and where the marker stands
-const SPARE: usize = 8;
+const SPARE: u8 = 8;
 
 const MARKER: usize = 16;
 
@@ -19,36 +19,12 @@ const SET: u8 = 1;
 
 const CLEAR: u8 = 0;
 
-/// Whether the marker says that a save was under way.
-#[derive(Clone, Copy)]
-enum Marker {
-    There,
-    Missing,
-    Unreadable,
-}
-
-// Power failed during a store.
-#[derive(Clone, Copy)]
-struct PowerCut;
-
-fn put<D: Device>(device: &mut D, b: usize, bytes: &[u8; 512]) -> Result<(), PowerCut>
-    requires { b < length (D.blocks device.old) }
-    ensures { Runs (D.blocks device.old) (D.lit device.old) (write b bytes.now ∷ []) result (D.blocks device.new) (D.lit device.new) }
-{
-    match device.store(b, bytes) {
-        Storing::Done => Ok(()),
-        Storing::Dark => Err(PowerCut),
-        Storing::Outside => unreachable(),
-    }
-}
-
 // The job's parts, block after block.
-fn copy<D: Device>(device: &mut D, job: &Job, from: usize) -> Result<(), PowerCut>
-    requires { (from + 8 ≤ length (D.blocks device.old)) × (from ≤ 8) }
+fn copy<D: Device>(device: &mut D, job: &Job, from: u8) -> Result<(), PowerCut>
     ensures { Runs (D.blocks device.old) (D.lit device.old) (copies job.now.parts from) result (D.blocks device.new) (D.lit device.new) }
 {
     for (i, part) in job.parts.iter().enumerate() {
-        put(device, from + i, part)?;
+        put(device, usize::from(from) + i, part)?;
     }
     Ok(())
 }
@@ -63,13 +39,7 @@ fn marker_block(mark: u8) -> [u8; 512]
 }
 
 // The job's parts, and then the marker, set or taken away.
-fn copy_and_mark<D: Device>(
-    device: &mut D,
-    job: &Job,
-    from: usize,
-    mark: u8,
-) -> Result<(), PowerCut>
-    requires { (17 ≤ length (D.blocks device.old)) × (from ≤ 8) }
+fn copy_and_mark<D: Device>(device: &mut D, job: &Job, from: u8, mark: u8) -> Result<(), PowerCut>
     ensures { Runs (D.blocks device.old) (D.lit device.old) (copies_marked job.now.parts from mark) result (D.blocks device.new) (D.lit device.new) }
 {
     copy(device, job, from)?;
@@ -78,50 +48,39 @@ fn copy_and_mark<D: Device>(
 
 // The new job to the spare blocks, the marker, the job over the old one, and no marker.
 fn save<D: Device>(device: &mut D, job: &Job) -> Result<(), PowerCut>
-    requires { 17 ≤ length (D.blocks device.old) }
     ensures { Runs (D.blocks device.old) (D.lit device.old) (save_plan job.now.parts) result (D.blocks device.new) (D.lit device.new) }
 {
     copy_and_mark(device, job, SPARE, SET)?;
     copy_and_mark(device, job, 0, CLEAR)
 }
 
-// Whether a save was under way.
-fn look<D: Device>(device: &D) -> Marker
-    requires { (17 ≤ length (D.blocks device.now)) × (D.lit device.now ≡ true) }
-    ensures { result ≡ marker_of (block_at (D.blocks device.now) 16) }
+// Whether the marker is set, so that a save was under way; none if it cannot be read.
+fn marker<D: Device>(device: &D) -> Option<bool>
+    ensures { D.lit device.now ≡ true → result ≡ marker_of (block_at (D.blocks device.now) 16) }
 {
     let mut bytes = [0; 512];
-    match device.read(MARKER, &mut bytes) {
-        Reading::Done if bytes[0] != 0 => Marker::There,
-        Reading::Done => Marker::Missing,
-        _ => Marker::Unreadable,
-    }
+    device.read(MARKER, &mut bytes).ok()?;
+    Some(bytes[0] != 0)
 }
 
 // The parts that stand from `from` on, if all can be read.
-fn load<D: Device>(device: &D, from: usize) -> Option<Job>
-    requires { (from + 8 ≤ length (D.blocks device.now)) × ((from ≤ 8) × (D.lit device.now ≡ true)) }
-    ensures { option_map (λ job. job.parts) result ≡ loaded (D.blocks device.now) from 8 }
+fn load<D: Device>(device: &D, from: u8) -> Option<Job>
+    ensures { D.lit device.now ≡ true → option_map (λ job. job.parts) result ≡ loaded (D.blocks device.now) from 8 }
 {
     let mut parts = [[0; 512]; 8];
-    for i in 0..8 {
-        let mut bytes = [0; 512];
-        match device.read(from + i, &mut bytes) {
-            Reading::Done => parts[i] = bytes,
-            _ => return None,
-        }
+    for (i, part) in parts.iter_mut().enumerate() {
+        device.read(usize::from(from) + i, part).ok()?;
     }
     Some(Job { parts })
 }
 
 // After a cut: if the marker is there, the spare copy over the job once more, and no marker.
 fn recover<D: Device>(device: &mut D) -> Result<(), PowerCut>
-    requires { (17 ≤ length (D.blocks device.old)) × (D.lit device.old ≡ true) }
-    ensures { Runs (D.blocks device.old) true (recovery_plan (D.blocks device.old)) result (D.blocks device.new) (D.lit device.new) }
+    ensures { D.lit device.old ≡ true → Runs (D.blocks device.old) true (recovery_plan (D.blocks device.old)) result (D.blocks device.new) (D.lit device.new) }
 {
-    let Marker::There = look(device) else {
+    if marker(device) != Some(true) {
         return Ok(());
-    };
+    }
     match load(device, SPARE) {
         Some(job) => copy_and_mark(device, &job, 0, CLEAR),
         None => Ok(()),
@@ -130,21 +89,16 @@ fn recover<D: Device>(device: &mut D) -> Result<(), PowerCut>
 
 // What stands in the job's place.
 fn judge<D: Device>(device: &D, old: &Job, new: &Job) -> Outcome
-    requires { (17 ≤ length (D.blocks device.now)) × (D.lit device.now ≡ true) }
-    ensures { Judged old.now.parts new.now.parts (D.blocks device.now) result }
+    ensures { D.lit device.now ≡ true → Judged old.now.parts new.now.parts (D.blocks device.now) result }
 {
-    if let Marker::Unreadable = look(device) {
+    if marker(device).is_none() {
         return Outcome::MarkerUnreadable;
     }
-    let Some(job) = load(device, 0) else {
-        return Outcome::PartUnreadable;
-    };
-    if job.same(old) {
-        Outcome::Old
-    } else if job.same(new) {
-        Outcome::New
-    } else {
-        Outcome::Mixed
+    match load(device, 0) {
+        None => Outcome::PartUnreadable,
+        Some(job) if job == *old => Outcome::Old,
+        Some(job) if job == *new => Outcome::New,
+        Some(_) => Outcome::Mixed,
     }
 }
 

@@ -1,5 +1,5 @@
 -- How a call comes to follow its rule: admitted, looking at its device step by step, and storing in the end.
-use Rattle.std.proofs.Common.{◌≡◌, ℕ, Bool, false, List, Ok, Err, Result, sym, refl, ap, ◌∙◌, subst, arith}
+use Rattle.std.proofs.Common.{◌≡◌, ℕ, Bool, false, List, Ok, Result, sym, ap, ◌∙◌, subst, arith}
 use Rattle.device.specs.Blocks.{Block}
 use Rattle.device.specs.Plans.{Write}
 use Rattle.journal.specs.Carried.{Ready}
@@ -45,10 +45,3 @@ module _ {A : Type 0} (m : Model) (r : Result A Refusal) (after : Model) where
 
   pub tested : {t : Bool} (why : Refusal) (more : Decision A) → t ≡ false → Follows more m r after → Follows (unless t why more) m r after
   tested {t} why more is h = subst (λ b. Follows (unless b why more) m r after) (sym is) h
-
-pub ok_same : {X : Type 0} (x y : X) → ◌≡◌ {A = Result X Refusal} (Ok x) (Ok y) → x ≡ y
-ok_same x y e = cc
-
--- a step that refuses
-pub refused : {A X : Type 0} (m end : Model) {d : Result X Refusal} (why : Refusal) (more : X → Decision A) → Err why ≡ d → end ≡ m → Follows (decide d more) m (Err why) end
-refused m end why more is same = subst (λ o. Follows (decide o more) m (Err why) end) is (refl, same)

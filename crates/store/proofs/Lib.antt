@@ -1,6 +1,4 @@
-pub mod Buffers
 pub mod Deleting
 pub mod Following
 pub mod Playing
 pub mod Steadiness
-pub mod Unnamed

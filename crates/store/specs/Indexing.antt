@@ -4,6 +4,7 @@
 --   entry_held     the identifier that an entry holds
 --   free_for       a free block for an entry's position, or the refusal: full
 --   entry_plan     the stores of a whole transaction that sets an entry: its block, the commit, the tail
+--   change_plan    the same of a change
 --   created        the root block of a new object
 --   retrieve_rule, preserve_rule, delete_rule, create_rule
 use Rattle.std.specs.Prelude.{ℕ, cond, not, List, [], ◌∷◌, Some, None, Ok, Err, Option, Result, ◌==◌, nat_lt, slice_index, slice_set}
@@ -31,6 +32,7 @@ use Rattle.store.specs.Model.{Model}
 use Rattle.store.specs.Naming.{named}
 use Rattle.store.specs.Staging.{start_of}
 use Rattle.store.specs.Transactions.{is_index, no_rows, root_after}
+use Rattle.store.specs.declared.indexing.EntryChange.{EntryChange}
 use Rattle.store.specs.declared.name.Name.{Name}
 use Rattle.store.specs.declared.phase.Asked.TheVariants as asked
 use Rattle.store.specs.declared.refusals.Refusal.{Refusal}
@@ -62,6 +64,9 @@ abbrev pub entry_plan : Object → ℕ → Option Identifier → ℕ → List Bl
 entry_plan object e id b =
     followed (entry_block_plan object e id b)
     (followed (commit_plan (root_after object (entry_rows e b)) (entry_rows e b)) finish_plan)
+
+abbrev pub change_plan : EntryChange → List Block → List Write
+change_plan change = entry_plan change.index change.entry change.id change.block
 
 abbrev pub retrieve_rule : Name → ℕ → Model → Decision (Option Identifier)
 retrieve_rule index e m =

@@ -8,13 +8,13 @@
 --   Stages       one store at a target, after which the row holds it
 --   prepared     the target of a write, and the bytes that go there
 --   stage_rule
-use Rattle.std.specs.Prelude.{ℕ, ◌+◌, Bool, true, false, cond, not, ◌&&◌, List, [], ◌∷◌, length, replicate, Some, None, Ok, Err, Option, Result, ◌==◌, nat_le, nat_lt, slice_index, slice_set}
+use Rattle.std.specs.Prelude.{ℕ, ◌+◌, Bool, cond, not, ◌&&◌, List, [], ◌∷◌, length, replicate, Some, None, Ok, Err, Option, Result, ◌==◌, nat_le, nat_lt, slice_index, slice_set}
 use Rattle.allocation.specs.Choosing.{free_block, chosen}
 use Rattle.device.specs.Blocks.{Block}
 use Rattle.device.specs.Plans.{write}
 use Rattle.device.specs.declared.device.Device.{Ghosts}
 use Rattle.journal.specs.Carried.{Ready}
-use Rattle.journal.specs.Rows.{row_of}
+use Rattle.journal.specs.Rows.{new_address, row_of}
 use Rattle.journal.specs.declared.row.Row.{Row}
 use Rattle.journal.specs.declared.row.Row.TheVariants.{Untouched, New, Cleared}
 use Rattle.lookup.specs.Finding.{held}
@@ -30,6 +30,7 @@ use Rattle.store.specs.declared.phase.Asked.TheVariants as asked
 use Rattle.store.specs.declared.refusals.Refusal.{Refusal}
 use Rattle.store.specs.declared.refusals.Refusal.TheVariants as refusal
 use Rattle.store.specs.declared.staging.Target.{Target}
+use Rattle.store.specs.declared.staging.Target.TheVariants as targets
 use Rattle.store.specs.declared.stores.Store.{Store}
 use Rattle.store.specs.declared.tickets.OpenTicket.{OpenTicket}
 use Rattle.volume.specs.Volume.{cylinders_of, content, some_address}
@@ -39,9 +40,7 @@ abbrev pub in_position : ℕ → ℕ → ℕ → Bool
 in_position position first n = nat_lt position 64 && nat_le 1 n && nat_le (first + n) 256
 
 abbrev pub kept_block : Row → ℕ → ℕ
-kept_block Untouched old = old
-kept_block (New b) old = b
-kept_block Cleared old = 0
+kept_block row old = new_address row old
 
 abbrev pub or_unreadable : ℕ → Option (List ℕ) → Result (List ℕ) Refusal
 or_unreadable a None = Err (refusal.Unreadable a)
@@ -66,10 +65,10 @@ start_of object old = cylinder_of (cond (old == 0) object.id.root old)
 
 abbrev pub or_full : Option ℕ → Result Target Refusal
 or_full None = Err refusal.Full
-or_full (Some b) = Ok (record { block = b; fresh = true })
+or_full (Some b) = Ok (targets.Fresh b)
 
 abbrev pub or_fresh : Option ℕ → Option ℕ → Result Target Refusal
-or_fresh (Some b) free = Ok (record { block = b; fresh = false })
+or_fresh (Some b) free = Ok (targets.Own b)
 or_fresh None free = or_full free
 
 abbrev pub target : List Block → List Row → Object → ℕ → Result Target Refusal
@@ -77,9 +76,15 @@ target blocks rows object p =
     or_fresh (own_target object.kind (row_of rows p) (slice_index object.blocks p))
     (chosen (free_block rows) (start_of object (slice_index object.blocks p)) blocks)
 
+-- the block of a target
+abbrev pub block_of : Target → ℕ
+block_of (targets.Own b) = b
+block_of (targets.Fresh b) = b
+
 -- the row holds the block from now on, if it is a fresh one
 abbrev pub rows_with : List Row → ℕ → Target → List Row
-rows_with rows p t = cond t.fresh (slice_set rows p (New t.block)) rows
+rows_with rows p (targets.Own b) = rows
+rows_with rows p (targets.Fresh b) = slice_set rows p (New b)
 
 -- the target of a write, and the bytes that go there
 abbrev pub prepared : List Block → List Row → Object → ℕ → ℕ → List ℕ → Result (Target × List ℕ) Refusal
@@ -92,10 +97,10 @@ stage_rule ticket p first words m =
     decide (admitted m.phase (asked.Open ticket.id)) (λ _.
     unless (not (in_position p first (length words))) refusal.Range
     (decide (prepared m.blocks m.rows (held m.blocks ticket.id) p first words) (λ found.
-    Decision.go (write found.0.block found.1 ∷ []) tt m.phase (rows_with m.rows p found.0))))
+    Decision.go (write (block_of found.0) found.1 ∷ []) tt m.phase (rows_with m.rows p found.0))))
 
 -- one store at a target, after which the row holds it
 abbrev pub Stages : {D : Type 0} → Ghosts D → ℕ → Target → List ℕ → Store D → Result (Unit {0}) Refusal → Store D → Type 0
 Stages meaning p t bytes store r store' =
     Ready (meaning.blocks store.device) (meaning.lit store.device) (cylinders_of (meaning.blocks store.device)) →
-    Goes (seen meaning store) (write t.block bytes ∷ []) tt (seen meaning store).phase (rows_with (seen meaning store).rows p t) r (seen meaning store')
+    Goes (seen meaning store) (write (block_of t) bytes ∷ []) tt (seen meaning store).phase (rows_with (seen meaning store).rows p t) r (seen meaning store')

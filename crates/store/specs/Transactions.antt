@@ -2,8 +2,10 @@
 --   is_index     the kind of an index
 --   no_rows      every position untouched
 --   root_after   the root block of an object once its rows are carried out
+--   rows_plan    the stores of the commit of an object's rows
 --   begin_rule, abandon_rule, clear_rule, commit_rule, settle_rule
 use Rattle.std.specs.Prelude.{ℕ, Bool, true, false, not, List, [], length, replicate, ◌==◌, nat_lt, slice_index, slice_set}
+use Rattle.device.specs.Blocks.{Block}
 use Rattle.device.specs.Plans.{Write}
 use Rattle.journal.specs.Committing.{commit_plan}
 use Rattle.journal.specs.Finishing.{finish_plan}
@@ -58,6 +60,10 @@ clear_rule ticket position m =
 -- the root block of an object once its rows are carried out
 abbrev pub root_after : Object → List Row → RootOf
 root_after object rows = record { id = object.id; kind = object.kind; blocks = new_addresses rows object.blocks }
+
+-- the stores of a commit of these rows
+abbrev pub rows_plan : Object → List Row → List Block → List Write
+rows_plan object rows = commit_plan (root_after object rows) rows
 
 abbrev pub commit_writes : Identifier → Model → List Write
 commit_writes id m = commit_plan (root_after (held m.blocks id) m.rows) m.rows m.blocks

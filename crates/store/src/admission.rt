@@ -9,7 +9,7 @@ use map::Identifier;
 fn is_on(x: Identifier, y: Identifier) -> Result<(), Refusal>
     ensures { result ≡ on_it x y }
 {
-    if x.tag() == y.tag() && x.root() == y.root() {
+    if x == y {
         Ok(())
     } else {
         Err(Refusal::NoSuchTransaction)

@@ -9,6 +9,7 @@ use device::Device;
 use journal::Row;
 
 // No position is touched.
+#[tactic(auto, unfolding(crate::specs::Transactions::no_rows))]
 pub(crate) fn no_rows() -> Table
     ensures { result.rows ≡ no_rows }
 {
@@ -42,11 +43,6 @@ impl<D: Device> Store<D> {
     pub fn detach(self) -> D
         ensures { result ≡ self.device }
     {
-        let Store {
-            device,
-            phase: _,
-            table: _,
-        } = self;
-        device
+        self.device
     }
 }

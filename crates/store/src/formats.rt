@@ -2,8 +2,6 @@
 ghost use Rattle.std.specs.Prelude.{◌≡◌};
 ghost use Rattle.store.specs.Formatting.{sized, Formats};
 
-use crate::attachment::no_rows;
-use crate::phase::Phase;
 use crate::refusals::Refusal;
 use crate::stores::Store;
 use device::Device;
@@ -13,7 +11,7 @@ use map::Identifier;
 fn is_sized(n: usize) -> bool
     ensures { result ≡ sized n }
 {
-    n % 32 == 0 && n >= 32 && n <= 2048
+    n % 32 == 0 && (32..=2048).contains(&n)
 }
 
 impl<D: Device> Store<D> {
@@ -23,23 +21,14 @@ impl<D: Device> Store<D> {
         ensures { Formats D.Device tag self.old result self.new }
     {
         self.device.light();
-        let Some(index) = Identifier::new(tag, 1) else {
-            return Err(Refusal::TagZero);
-        };
+        let index = Identifier::new(tag, 1).ok_or(Refusal::TagZero)?;
         let size = self.device.size();
         if !is_sized(size) {
             return Err(Refusal::Size);
         }
-        match formatting::format(&mut self.device, index, (size / 32) as u8) {
-            Ok(_) => {
-                self.phase = Phase::Idle;
-                self.table = no_rows();
-                Ok(index)
-            }
-            Err(_) => {
-                self.phase = Phase::Down;
-                Err(Refusal::Down)
-            }
-        }
+        let formatted = formatting::format(&mut self.device, index);
+        self.or_down(formatted)?;
+        self.close();
+        Ok(index)
     }
 }

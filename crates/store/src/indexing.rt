@@ -1,93 +1,74 @@
 // The calls on an index.
-ghost use Rattle.std.specs.Prelude.{◌≡◌, ◌<◌, ◌≤◌, IfOk, Ok};
-ghost use Rattle.journal.specs.Committing.{commit_plan};
-ghost use Rattle.store.specs.Transactions.{root_after};
-ghost use Rattle.journal.specs.Carried.{Carries, Completes};
+ghost use Rattle.std.specs.Prelude.{◌≡◌, ◌≤◌, IfOk, Ok};
+ghost use Rattle.store.specs.Transactions.{rows_plan};
+ghost use Rattle.journal.specs.Carried.{CarriesAll, CompletesAll};
 ghost use Rattle.store.specs.Decisions.{Obeys, StoresAll};
-ghost use Rattle.store.specs.Indexing.{index_only, indexed, entry_held, free_for, entry_rows, entry_block_plan, entry_plan, retrieve_rule, preserve_rule, delete_rule, create_rule};
+ghost use Rattle.store.specs.Indexing.{index_only, indexed, entry_held, free_for, entry_rows, entry_block_plan, change_plan, retrieve_rule, preserve_rule, delete_rule};
 ghost use Rattle.store.specs.Model.{Looks};
 
 use crate::attachment::no_rows;
+use crate::entries::EntryNumber;
 use crate::name::Name;
-use crate::phase::{Asked, Phase};
-use crate::reading::cylinders;
+use crate::phase::Asked;
 use crate::refusals::Refusal;
 use crate::staging::start_of;
 use crate::stores::{Store, Table};
-use crate::transactions::is_index;
+use crate::transactions::commit_rows;
 use allocation::{FreeBlock, choose};
-use device::Device;
-use journal::{PowerCut, commit, finish, new_addresses, put};
+use device::{Device, PowerCut, put};
+use journal::finish;
 use lookup::{Object, entered_block, position_bytes};
-use map::Identifier;
-use object::{Root, index_entry, index_place};
+use map::{Identifier, Kind};
+use object::index_entry;
 
-// The block of an entry's position with the entry set, at its new place.
-fn store_entry_block<D: Device>(
-    device: &mut D,
-    object: &Object,
-    e: u16,
-    id: Option<Identifier>,
-    b: u16,
-    cylinders: u8,
-) -> Result<u32, PowerCut>
-    requires { e < 4096 }
-    ensures few { IfOk result (λ n. n ≤ 1) }
-    ensures stores { Carries D.Device device.old cylinders (entry_block_plan object.now e id b) result device.new }
-{
-    let (p, _) = index_place(e);
-    let bytes = position_bytes(device, object.blocks[p])?;
-    put(device, usize::from(b), &entered_block(&bytes, e, id))?;
-    Ok(1)
+// What a transaction does that sets an entry: the entry holds the identifier from then on, or none,
+// and its position has the new block.
+#[derive(Clone, Copy)]
+pub(crate) struct EntryChange {
+    pub index: Object,
+    pub entry: EntryNumber,
+    pub id: Option<Identifier>,
+    pub block: u16,
 }
 
-// The rows of a transaction that gives an entry's position a new block.
-fn entry_rows(e: u16, b: u16) -> Table
-    requires { e < 4096 }
-    ensures { result.rows ≡ entry_rows e b }
-{
-    let (p, _) = index_place(e);
-    let mut table = no_rows();
-    table.rows[p].renew(b);
-    table
-}
+impl EntryChange {
+    // The block of the entry's position with the entry set, at its new place.
+    fn store_block<D: Device>(&self, device: &mut D) -> Result<u32, PowerCut>
+        ensures few { IfOk result (λ n. n ≤ 1) }
+        ensures stores { CarriesAll D.Device device.old (entry_block_plan self.now.index self.now.entry self.now.id self.now.block) result device.new }
+    {
+        let old = self.index.blocks[self.entry.position()];
+        let bytes = position_bytes(device, old)?;
+        let bytes = entered_block(&bytes, self.entry.number(), self.id);
+        put(device, usize::from(self.block), &bytes)?;
+        Ok(1)
+    }
 
-// The commit of a transaction that gives an entry's position a new block.
-fn commit_entry<D: Device>(
-    device: &mut D,
-    object: &Object,
-    e: u16,
-    b: u16,
-    cylinders: u8,
-) -> Result<u32, PowerCut>
-    requires { e < 4096 }
-    ensures { Carries D.Device device.old cylinders (commit_plan (root_after object.now (entry_rows e b)) (entry_rows e b)) result device.new }
-{
-    let table = entry_rows(e, b);
-    let root = Root {
-        id: object.id,
-        kind: object.kind,
-        blocks: new_addresses(&table.rows, &object.blocks),
-    };
-    commit(device, &root, &table.rows, cylinders)
-}
+    // The rows of the transaction.
+    fn table(&self) -> Table
+        ensures { result.rows ≡ entry_rows self.now.entry self.now.block }
+    {
+        let mut table = no_rows();
+        table.rows[self.entry.position()].renew(self.block);
+        table
+    }
 
-// A whole transaction that sets an entry of an index: its block, the commit and the tail.
-pub(crate) fn store_entry<D: Device>(
-    device: &mut D,
-    object: &Object,
-    e: u16,
-    id: Option<Identifier>,
-    b: u16,
-    cylinders: u8,
-) -> Result<(), PowerCut>
-    requires { e < 4096 }
-    ensures { Completes D.Device device.old cylinders (entry_plan object.now e id b) result device.new }
-{
-    store_entry_block(device, object, e, id, b, cylinders)?;
-    commit_entry(device, object, e, b, cylinders)?;
-    finish(device, cylinders)?;
-    Ok(())
+    // The commit of the transaction.
+    fn commit<D: Device>(&self, device: &mut D) -> Result<u32, PowerCut>
+        ensures { CarriesAll D.Device device.old (rows_plan self.now.index (entry_rows self.now.entry self.now.block)) result device.new }
+    {
+        commit_rows(device, &self.index, &self.table().rows)
+    }
+
+    // The whole transaction: the block, the commit and the tail.
+    pub(crate) fn store<D: Device>(&self, device: &mut D) -> Result<(), PowerCut>
+        ensures { CompletesAll D.Device device.old (change_plan self.now) result device.new }
+    {
+        self.store_block(device)?;
+        self.commit(device)?;
+        finish(device)?;
+        Ok(())
+    }
 }
 
 impl<D: Device> Store<D> {
@@ -96,7 +77,7 @@ impl<D: Device> Store<D> {
         ensures { Looks D.Device (λ all. indexed all name) self.old result self.new }
     {
         let object = self.object(name)?;
-        if is_index(object.kind) {
+        if object.kind == Kind::Index {
             Ok(object)
         } else {
             Err(Refusal::WrongKind)
@@ -104,18 +85,11 @@ impl<D: Device> Store<D> {
     }
 
     // The identifier that an entry holds.
-    fn entry(&mut self, object: &Object, e: u16) -> Result<Option<Identifier>, Refusal>
-        requires { e < 4096 }
+    fn entry(&mut self, object: &Object, e: EntryNumber) -> Result<Option<Identifier>, Refusal>
         ensures { Looks D.Device (λ all. Ok (entry_held all object.now e)) self.old result self.new }
     {
-        let (p, _) = index_place(e);
-        match position_bytes(&self.device, object.blocks[p]) {
-            Ok(bytes) => Ok(index_entry(&bytes, e)),
-            Err(_) => {
-                self.phase = Phase::Down;
-                Err(Refusal::Down)
-            }
-        }
+        let bytes = position_bytes(&self.device, object.blocks[e.position()]);
+        Ok(index_entry(&self.or_down(bytes)?, e.number()))
     }
 
     /// The identifier that entry `e` of an index holds, or none.
@@ -124,55 +98,31 @@ impl<D: Device> Store<D> {
     {
         self.phase.admit(Asked::Up)?;
         let object = self.index(index)?;
-        if e >= 4096 {
-            return Err(Refusal::Range);
-        }
-        self.entry(&object, e as u16)
+        let e = EntryNumber::new(e)?;
+        self.entry(&object, e)
     }
 
     // A free block for an entry's position.
-    pub(crate) fn free_for(&mut self, object: &Object, e: u16) -> Result<u16, Refusal>
-        requires { e < 4096 }
+    pub(crate) fn free_for(&mut self, object: &Object, e: EntryNumber) -> Result<u16, Refusal>
         ensures { Looks D.Device (λ all. free_for all object.now e) self.old result self.new }
     {
-        let (p, _) = index_place(e);
-        let table = no_rows();
-        let rows = table.rows;
-        let wanted = FreeBlock { rows };
-        match choose(
+        let wanted = FreeBlock {
+            rows: no_rows().rows,
+        };
+        let chosen = choose(
             &self.device,
             &wanted,
-            start_of(object, object.blocks[p]),
-            cylinders(&self.device),
-        ) {
-            Ok(Some(block)) => Ok(block),
-            Ok(None) => Err(Refusal::Full),
-            Err(_) => {
-                self.phase = Phase::Down;
-                Err(Refusal::Down)
-            }
-        }
+            start_of(object, object.blocks[e.position()]),
+        );
+        self.or_down(chosen)?.ok_or(Refusal::Full)
     }
 
     // The transaction that sets an entry. Where power fails, the store is down.
-    fn set_entry(
-        &mut self,
-        object: &Object,
-        e: u16,
-        id: Option<Identifier>,
-        b: u16,
-    ) -> Result<(), Refusal>
-        requires { e < 4096 }
-        ensures { StoresAll D.Device (entry_plan object.now e id b) tt self.old result self.new }
+    fn set_entry(&mut self, change: &EntryChange) -> Result<(), Refusal>
+        ensures { StoresAll D.Device (change_plan change.now) tt self.old result self.new }
     {
-        let n = cylinders(&self.device);
-        match store_entry(&mut self.device, object, e, id, b, n) {
-            Ok(()) => Ok(()),
-            Err(_) => {
-                self.phase = Phase::Down;
-                Err(Refusal::Down)
-            }
-        }
+        let stored = change.store(&mut self.device);
+        self.or_down(stored)
     }
 
     /// Sets entry `e` of an index to the identifier of an object.
@@ -180,13 +130,16 @@ impl<D: Device> Store<D> {
         ensures { Obeys D.Device (preserve_rule index e name) self.old result self.new }
     {
         self.phase.admit(Asked::Idle)?;
-        let object = self.index(index)?;
-        if e >= 4096 {
-            return Err(Refusal::Range);
-        }
+        let index = self.index(index)?;
+        let entry = EntryNumber::new(e)?;
         let kept = self.object(name)?;
-        let b = self.free_for(&object, e as u16)?;
-        self.set_entry(&object, e as u16, Some(kept.id), b)
+        let block = self.free_for(&index, entry)?;
+        self.set_entry(&EntryChange {
+            index,
+            entry,
+            id: Some(kept.id),
+            block,
+        })
     }
 
     /// Empties entry `e` of an index. An entry that is empty already is left as it is.
@@ -194,15 +147,18 @@ impl<D: Device> Store<D> {
         ensures { Obeys D.Device (delete_rule index e) self.old result self.new }
     {
         self.phase.admit(Asked::Idle)?;
-        let object = self.index(index)?;
-        if e >= 4096 {
-            return Err(Refusal::Range);
-        }
-        let held = self.entry(&object, e as u16)?;
+        let index = self.index(index)?;
+        let entry = EntryNumber::new(e)?;
+        let held = self.entry(&index, entry)?;
         if held.is_none() {
             return Ok(());
         }
-        let b = self.free_for(&object, e as u16)?;
-        self.set_entry(&object, e as u16, None, b)
+        let block = self.free_for(&index, entry)?;
+        self.set_entry(&EntryChange {
+            index,
+            entry,
+            id: None,
+            block,
+        })
     }
 }

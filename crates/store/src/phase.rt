@@ -2,7 +2,7 @@
 use map::Identifier;
 
 /// Where a store stands.
-#[derive(Clone, Copy)]
+#[derive(Clone, Copy, PartialEq, Eq, Debug)]
 pub enum Phase {
     /// No call but format is taken.
     Down,
@@ -15,7 +15,7 @@ pub enum Phase {
 }
 
 /// What a call asks of the phase; a ticket names the transaction that is asked for.
-#[derive(Clone, Copy)]
+#[derive(Clone, Copy, PartialEq, Eq, Debug)]
 pub enum Asked {
     /// That the store is up.
     Up,

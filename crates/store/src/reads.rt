@@ -6,12 +6,12 @@ ghost use Rattle.store.specs.Model.{seen, Steady, Looks};
 ghost use Rattle.store.specs.Reading.{in_object, all_shown, read_rule, buffer_after};
 
 use crate::name::Name;
-use crate::phase::{Asked, Phase};
+use crate::phase::Asked;
 use crate::refusals::Refusal;
 use crate::stores::Store;
-use crate::transactions::is_index;
 use device::Device;
-use lookup::{Object, read_words};
+use lookup::read_words;
+use map::Kind;
 
 // Whether so many words from `offset` on lie within an object.
 fn is_in_object(offset: u64, n: usize) -> bool
@@ -29,19 +29,16 @@ impl<D: Device> Store<D> {
     {
         self.phase.admit(Asked::Up)?;
         let object = self.object(name)?;
-        if is_index(object.kind) {
+        if object.kind == Kind::Index {
             return Err(Refusal::WrongKind);
         }
         if !is_in_object(offset, buffer.len()) {
             return Err(Refusal::Range);
         }
-        match read_words(&self.device, &object.blocks, offset as usize, buffer) {
-            Ok(None) => Ok(()),
-            Ok(Some(a)) => Err(Refusal::Unreadable(a)),
-            Err(_) => {
-                self.phase = Phase::Down;
-                Err(Refusal::Down)
-            }
+        let read = read_words(&self.device, &object.blocks, offset as usize, buffer);
+        match self.or_down(read)? {
+            None => Ok(()),
+            Some(a) => Err(Refusal::Unreadable(a)),
         }
     }
 }

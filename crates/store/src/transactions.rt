@@ -1,19 +1,19 @@
 // Beginning and ending a transaction.
-ghost use Rattle.std.specs.Prelude.{◌≡◌, true};
+ghost use Rattle.std.specs.Prelude.{◌≡◌, true, length};
+ghost use Rattle.journal.specs.Carried.{CarriesAll};
 ghost use Rattle.map.specs.Identifiers.{identified};
-ghost use Rattle.store.specs.Decisions.{Obeys};
+ghost use Rattle.store.specs.Decisions.{Obeys, StoresAll};
 ghost use Rattle.store.specs.Model.{seen};
-ghost use Rattle.store.specs.Transactions.{is_index, begin_rule, abandon_rule, clear_rule, commit_rule, settle_rule};
+ghost use Rattle.store.specs.Transactions.{rows_plan, begin_rule, abandon_rule, clear_rule, commit_rule, settle_rule};
 
-use crate::attachment::no_rows;
 use crate::name::Name;
 use crate::phase::{Asked, Phase};
-use crate::reading::cylinders;
 use crate::refusals::Refusal;
 use crate::stores::Store;
 use crate::tickets::{OpenTicket, WaitingTicket};
-use device::Device;
-use journal::{finish, new_addresses};
+use device::{Device, PowerCut};
+use journal::{Row, commit, finish, new_addresses};
+use lookup::Object;
 use map::{Identifier, Kind};
 use object::Root;
 
@@ -22,23 +22,26 @@ impl Name {
     pub fn identifier(self) -> Option<Identifier>
         ensures { result ≡ identified self.tag self.root }
     {
-        let Ok(tag) = u32::try_from(self.tag) else {
-            return None;
-        };
-        let Ok(root) = u32::try_from(self.root) else {
-            return None;
-        };
+        let tag = u32::try_from(self.tag).ok()?;
+        let root = u32::try_from(self.root).ok()?;
         Identifier::new(tag, root)
     }
 }
 
-pub(crate) fn is_index(kind: Kind) -> bool
-    ensures { result ≡ is_index kind }
+// The commit of a transaction on an object: its rows are carried out.
+pub(crate) fn commit_rows<D: Device>(
+    device: &mut D,
+    object: &Object,
+    rows: &[Row; 64],
+) -> Result<u32, PowerCut>
+    ensures { CarriesAll D.Device device.old (rows_plan object.now rows.now) result device.new }
 {
-    match kind {
-        Kind::Index => true,
-        _ => false,
-    }
+    let root = Root {
+        id: object.id,
+        kind: object.kind,
+        blocks: new_addresses(rows, &object.blocks),
+    };
+    commit(device, &root, rows)
 }
 
 impl<D: Device> Store<D> {
@@ -48,7 +51,7 @@ impl<D: Device> Store<D> {
     {
         self.phase.admit(Asked::Idle)?;
         let object = self.object(name)?;
-        if is_index(object.kind) {
+        if object.kind == Kind::Index {
             return Err(Refusal::WrongKind);
         }
         self.phase = Phase::Open(object.id);
@@ -61,8 +64,7 @@ impl<D: Device> Store<D> {
     {
         let OpenTicket { id } = ticket;
         self.phase.admit(Asked::Open(id))?;
-        self.phase = Phase::Idle;
-        self.table = no_rows();
+        self.close();
         Ok(())
     }
 
@@ -80,6 +82,14 @@ impl<D: Device> Store<D> {
         Ok(())
     }
 
+    // The stores of a commit, counted. Where power fails, the store is down.
+    fn store_rows(&mut self, object: &Object) -> Result<u32, Refusal>
+        ensures { StoresAll D.Device (rows_plan object.now self.old.table.rows) (length (rows_plan object.now self.old.table.rows (D.blocks self.old.device))) self.old result self.new }
+    {
+        let committed = commit_rows(&mut self.device, object, &self.table.rows);
+        self.or_down(committed)
+    }
+
     /// Commits an open transaction: stores its intentions, the root block and the commit bit. The
     /// answer has the ticket to settle it with, and how many stores that took.
     pub fn commit(&mut self, ticket: OpenTicket) -> Result<(WaitingTicket, u32), Refusal>
@@ -88,22 +98,9 @@ impl<D: Device> Store<D> {
         let OpenTicket { id } = ticket;
         self.phase.admit(Asked::Open(id))?;
         let object = self.held(id)?;
-        let root = Root {
-            id: object.id,
-            kind: object.kind,
-            blocks: new_addresses(&self.table.rows, &object.blocks),
-        };
-        let n = cylinders(&self.device);
-        match journal::commit(&mut self.device, &root, &self.table.rows, n) {
-            Ok(stores) => {
-                self.phase = Phase::Waiting(id);
-                Ok((WaitingTicket { id }, stores))
-            }
-            Err(_) => {
-                self.phase = Phase::Down;
-                Err(Refusal::Down)
-            }
-        }
+        let stores = self.store_rows(&object)?;
+        self.phase = Phase::Waiting(id);
+        Ok((WaitingTicket { id }, stores))
     }
 
     /// Settles a committed transaction: stores the maps with its intentions carried out, and then the
@@ -113,17 +110,9 @@ impl<D: Device> Store<D> {
     {
         let WaitingTicket { id } = ticket;
         self.phase.admit(Asked::Waiting(id))?;
-        let n = cylinders(&self.device);
-        match finish(&mut self.device, n) {
-            Ok(stores) => {
-                self.phase = Phase::Idle;
-                self.table = no_rows();
-                Ok(stores)
-            }
-            Err(_) => {
-                self.phase = Phase::Down;
-                Err(Refusal::Down)
-            }
-        }
+        let finished = finish(&mut self.device);
+        let stores = self.or_down(finished)?;
+        self.close();
+        Ok(stores)
     }
 }

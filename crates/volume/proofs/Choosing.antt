@@ -1,7 +1,6 @@
 -- Why a map that is not chosen would not change, and the step of the loops that choose.
-use Rattle.std.proofs.Common.{◌≡◌, ℕ, ◌+◌, ◌<◌, ◌≤◌, Bool, true, false, cond, ◌||◌, List, [], ◌∷◌, map, length, get_or, drop, sym, refl, ap, ◌∙◌, ap₂, ⊎_elim}
-use Rattle.std.proofs.lemmas.List.{at_drop_more, at_drop_all, get_or_past}
-use Rattle.std.proofs.lemmas.Bool.{or_parts, not-false, cases_lt, true≢false, false≢true}
+use Rattle.std.proofs.Common.{◌≡◌, Bool, false, cond, List, [], ◌∷◌, map, sym, refl, ap, ◌∙◌, ap₂}
+use Rattle.std.proofs.lemmas.Bool.{or_parts, not-false, false≢true}
 use Rattle.map.specs.declared.entry.DataState.TheVariants as data_state
 use Rattle.map.specs.declared.entry.Entry.{Entry}
 use Rattle.map.specs.declared.entry.Entry.TheVariants.{Map, Free, Root, Data}
@@ -53,32 +52,3 @@ choosing_law = record {
   settled_map = λ E. map_already (unsettled E) (settled E) (settled_already E);
   cleared_map = map_already bit cleared cleared_already;
 }
-
--- a loop that has come to entry i: what is left decides, and entry i decides if it passes the test
-abbrev pub Searched : (Entry → Bool) → List Entry → ℕ → Type 0
-Searched test entries i =
-    (any_of test (drop i entries) ≡ any_of test entries) × (true ≡ test (get_or entries i Map) → true ≡ any_of test entries)
-
-module _ (test : Entry → Bool) (entries : List Entry) (none : test Map ≡ false) where
-  here : (i : ℕ) → i < length entries → any_of test (drop i entries) ≡ (test (get_or entries i Map) || any_of test (drop (i + 1) entries))
-  here i within = at_drop_more (any_of test) entries i Map within
-
-  searched : (i : ℕ) → any_of test (drop i entries) ≡ any_of test entries → Searched test entries i
-  searched i left = (
-    left,
-    λ on.
-        ⊎_elim
-        (λ (within : i < length entries). sym (sym left ∙ here i within ∙ ap (λ t. t || any_of test (drop (i + 1) entries)) (sym on)))
-        (λ past. absurd (true≢false (on ∙ ap test (get_or_past entries i Map past) ∙ none)))
-        (cases_lt i (length entries)),
-  )
-
-  pub searched_none : Searched test entries 0
-  searched_none = searched 0 refl
-
-  pub searched_more : (i : ℕ) → i < length entries → Searched test entries i → false ≡ test (get_or entries i Map) → Searched test entries (i + 1)
-  searched_more i within so_far off =
-      searched (i + 1) (sym (sym so_far.0 ∙ here i within ∙ ap (λ t. t || any_of test (drop (i + 1) entries)) (sym off)))
-
-  pub searched_all : (i : ℕ) → length entries ≤ i → Searched test entries i → false ≡ any_of test entries
-  searched_all i past so_far = sym (at_drop_all (any_of test) entries i past) ∙ so_far.0

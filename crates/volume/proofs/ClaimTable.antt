@@ -1,6 +1,8 @@
 -- Why each slot of the table of claims has the lowest block that counts for it.
 use Rattle.std.proofs.Common.{◌≡◌, ℕ, zero, suc, ◌+◌, ◌*◌, ◌<◌, ◌≤◌, Bool, true, false, cond, not, ◌&&◌, eqb, leb, ◌≢◌, List, length, get_or, drop, set, Some, None, Option, sym, refl, ap, ◌∙◌, subst, ap₂, ⊎_elim, arith}
-use Rattle.std.proofs.lemmas.List.{length-set, get_or-set_same, get_or-set_other, get_or-replicate, get_or_past, set_past, at_drop_more, at_drop_all}
+use Rattle.std.specs.Bool.{then_some}
+use Rattle.std.specs.Option.{option_or}
+use Rattle.std.proofs.lemmas.List.{length-set, get_or-set_same, get_or-set_other, get_or-replicate, at_drop_more, at_drop_all}
 use Rattle.std.proofs.lemmas.Bool.{and_parts, and_from, leb-true, eq-eqb, ne_eqb, cases_eq, cases_Bool, true≢false}
 use Rattle.map.specs.Addresses.{sector_of, root_place}
 use Rattle.map.specs.Entries.{fits_entry, Named}
@@ -135,17 +137,6 @@ module _ (E : Entries) (cylinders r p : ℕ) (few : cylinders ≤ 64) (fit : Fit
 pub table_law : TableLaw
 table_law E cylinders r p few fit place rh ph = filled E cylinders r p few fit place rh ph (32 * cylinders) (omega arith)
 
--- an entry whose slot is past the table changes nothing
-pub past_claim : (E : Entries) (a : ℕ) (e : Entry) (table : List ℕ) → length table ≤ entry_slot e → (not (doubled E e table) ≡ true) × (claimed E a e table ≡ table)
-past_claim E a e table past = (
-  ap (λ x. not (counts E e && not (eqb x 0))) (get_or_past table (entry_slot e) 0 past) ∙ ap not (and_none (counts E e)),
-  ap (λ xs. cond (counts E e && eqb (get_or table (entry_slot e) 0) 0) xs table) (set_past table (entry_slot e) a past) ∙ either_way (counts E e && eqb (get_or table (entry_slot e) 0) 0),
-)
-  where
-    either_way : (t : Bool) → cond t table table ≡ table
-    either_way true = refl
-    either_way false = refl
-
 -- one entry of a map more
 module _ (E : Entries) (a i : ℕ) (entries : List Entry) (table : List ℕ) (within : i < length entries) where
   pub more_claimed : claimed_from E (a + i) (drop i entries) table ≡ claimed_from E (a + (i + 1)) (drop (i + 1) entries) (claimed E (a + i) (get_or entries i Map) table)
@@ -162,7 +153,7 @@ module _ (E : Entries) (a i : ℕ) (entries : List Entry) (table : List ℕ) (wi
       ∙ ap (λ b. cond (doubled E (get_or entries i Map) table) (Some (a + i)) (first_doubled E b (drop (i + 1) entries) (claimed E (a + i) (get_or entries i Map) table))) (omega arith)
 
 -- the first that was found, or this one, or the first of the rest
-pub first_of_all : (first : Option ℕ) (twice : Bool) (b : ℕ) (rest : Option ℕ) → or_else (or_else first (cond (not twice) None (Some b))) rest ≡ or_else first (cond twice (Some b) rest)
+pub first_of_all : (first : Option ℕ) (twice : Bool) (b : ℕ) (rest : Option ℕ) → or_else (option_or first (then_some (not (not twice)) b)) rest ≡ or_else first (cond twice (Some b) rest)
 first_of_all None true b rest = refl
 first_of_all None false b rest = refl
 first_of_all (Some c) twice b rest = refl

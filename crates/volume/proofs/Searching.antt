@@ -1,5 +1,5 @@
 -- What a search finds.
-use Rattle.std.proofs.Common.{◌≡◌, ℕ, zero, suc, ◌<◌, Bool, true, false, cond, ◌||◌, Some, None, Option, sym, refl, ap, ◌∙◌, ap₂, ⊎_elim, arith}
+use Rattle.std.proofs.Common.{◌≡◌, ℕ, zero, suc, ◌<◌, Bool, true, false, cond, ◌||◌, MatchOption, Some, None, Option, sym, refl, ap, ◌∙◌, ap₂, ⊎_elim, arith}
 use Rattle.std.proofs.lemmas.Bool.{cases_eq, cases_Bool, or_left, or_right, or_from}
 use Rattle.volume.specs.Search.{lowest, any, or_else}
 
@@ -79,3 +79,11 @@ pub any_same : (f g : ℕ → Bool) (n : ℕ) → ((a : ℕ) → f a ≡ g a) �
 unfolding any
 any_same f g zero e = refl
 any_same f g (suc n) e = ap₂ ◌||◌ (any_same f g n e) (e n)
+
+-- what a search that stops at the first answers
+abbrev pub IsFirst : (ℕ → Bool) → ℕ → Option ℕ → Type 0
+IsFirst f n r = MatchOption r ((k : ℕ) → k < n → f k ≡ false) (λ i. (i < n) × (f i ≡ true) × ((k : ℕ) → k < i → f k ≡ false))
+
+pub first_is_lowest : (f : ℕ → Bool) (n : ℕ) (r : Option ℕ) → IsFirst f n r → r ≡ lowest f n
+first_is_lowest f n None none = sym (lowest_none f n none)
+first_is_lowest f n (Some i) is = sym (lowest_first f n i is.0 is.1 is.2)

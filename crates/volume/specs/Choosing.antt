@@ -6,7 +6,8 @@
 --   any_unsettled   a map that needs settling
 --   any_committed   a map with a commit bit
 --   ChoosingLaw     a map that is not chosen would not change, and its entries are quiet
-use Rattle.std.specs.Prelude.{◌≡◌, Bool, true, false, not, ◌||◌, List, [], ◌∷◌, map}
+use Rattle.std.specs.Prelude.{◌≡◌, Bool, true, false, not, ◌||◌, List, map}
+use Rattle.std.specs.List.{list_any}
 use Rattle.map.specs.declared.entry.DataState.TheVariants as data_state
 use Rattle.map.specs.declared.entry.Entry.{Entry}
 use Rattle.map.specs.declared.entry.Entry.TheVariants.{Map, Free, Root, Data}
@@ -36,8 +37,7 @@ abbrev pub unsettled : Entries → Entry → Bool
 unsettled E e = intends e || stray E e
 
 abbrev pub any_of : (Entry → Bool) → List Entry → Bool
-any_of test [] = false
-any_of test (e ∷ entries) = test e || any_of test entries
+any_of test entries = list_any test entries
 
 abbrev pub any_unsettled : Entries → List Entry → Bool
 any_unsettled E entries = any_of (unsettled E) entries

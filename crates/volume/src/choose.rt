@@ -11,14 +11,8 @@ fn is_intention(entry: Entry) -> bool
     ensures { result ≡ intends entry }
 {
     match entry {
-        Entry::Root {
-            state: RootState::IntendingToDeallocate,
-            ..
-        } => true,
-        Entry::Data {
-            state: DataState::IntendingToAllocate | DataState::IntendingToDeallocate,
-            ..
-        } => true,
+        Entry::Root { state, .. } => state != RootState::Allocated,
+        Entry::Data { state, .. } => state != DataState::Allocated,
         _ => false,
     }
 }
@@ -28,10 +22,7 @@ pub fn is_stray(entry: Entry, roots: &[Entry; 256]) -> bool
     ensures { result ≡ stray (table_entries roots.now) entry }
 {
     match entry {
-        Entry::Data {
-            state: DataState::Allocated,
-            ..
-        } => !entry_counts(entry, roots),
+        Entry::Data { state, .. } => state == DataState::Allocated && !entry_counts(entry, roots),
         _ => false,
     }
 }
@@ -47,12 +38,7 @@ fn is_unsettled(entry: Entry, roots: &[Entry; 256]) -> bool
 pub fn map_needs_settling(entries: &[Entry; 32], roots: &[Entry; 256]) -> bool
     ensures { result ≡ any_unsettled (table_entries roots.now) entries.now }
 {
-    for entry in entries {
-        if is_unsettled(*entry, roots) {
-            return true;
-        }
-    }
-    false
+    entries.iter().any(|entry| is_unsettled(*entry, roots))
 }
 
 /// A map that does not need settling is its own settled form, and one without a commit bit its own

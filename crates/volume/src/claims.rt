@@ -1,22 +1,22 @@
 // The table of claims: for each root place and position the lowest block that counts for it.
-ghost use Rattle.std.specs.Prelude.{◌≡◌, ◌*◌, not, if◌then◌else◌, Some, None};
+ghost use Rattle.std.specs.Prelude.{◌≡◌, ◌*◌, not};
 ghost use Rattle.volume.specs.ClaimTable.{claim_slot, doubled, claimed, claimed_from, first_doubled, TableLaw};
-ghost use Rattle.volume.specs.Search.{or_else};
 ghost use Rattle.volume.specs.Tables.{table_entries};
 
-use crate::settle::entry_counts;
-use map::{Entry, split};
+use crate::settle::{entry_counts, root_slot};
+use map::{Entry, join};
 
-// Where the block of a root place's position stands in the table.
+// Where the block of a root place's position stands in the table. A slot without a block holds 0, not
+// an Option: the table is fixed memory, two bytes for each slot.
 fn slot(r: u32, position: u8) -> usize
     ensures { result ≡ claim_slot r position }
 {
-    let (cylinder, sector) = split(r);
-    64 * (4 * cylinder as usize + (sector as usize).saturating_sub(1)) + usize::from(position)
+    64 * root_slot(r) + usize::from(position)
 }
 
 /// Notes the block of an entry, if it counts and is the first for its root place and position. The
 /// answer is whether it is not the second.
+// A bool, as of a set's `insert`: there is one reason to refuse and nothing to tell of it.
 pub fn claim_entry(table: &mut [u16; 16384], a: u16, entry: Entry, roots: &[Entry; 256]) -> bool
     ensures value { result ≡ not (doubled (table_entries roots.now) entry table.old) }
     ensures after { table.new ≡ claimed (table_entries roots.now) a entry table.old }
@@ -56,21 +56,11 @@ pub fn claim_map(
 {
     let mut first = None;
     for (s, held) in entries.iter().enumerate() {
-        let a = 32 * u16::from(cylinder) + s as u16;
+        let a = join(cylinder, s as u8);
         let fresh = claim_entry(table, a, *held, roots);
-        first = first_of(first, fresh, a);
+        first = first.or((!fresh).then_some(a));
     }
     first
-}
-
-// The first address that was not fresh.
-fn first_of(first: Option<u16>, fresh: bool, a: u16) -> Option<u16>
-    ensures { result ≡ or_else first (if fresh then None else Some a) }
-{
-    match first {
-        Some(found) => Some(found),
-        None => { if fresh { None } else { Some(a) } }
-    }
 }
 
 /// With every entry that fits, each slot has the lowest block that counts for it.

@@ -1,5 +1,6 @@
 // Marking intentions in one map.
-ghost use Rattle.std.specs.Prelude.{◌≡◌, is_some, slice_index_or};
+ghost use Rattle.std.specs.Prelude.{◌≡◌, Option, is_some, slice_index_or};
+ghost use Rattle.map.specs.declared.entry.Entry.{Entry};
 ghost use Rattle.map.specs.declared.entry.Entry.TheVariants.{Map};
 ghost use Rattle.volume.specs.Settling.{allocating, deallocating, put_in};
 
@@ -37,6 +38,26 @@ fn deallocate(entry: Entry) -> Option<Entry>
     }
 }
 
+// Puts what the rule gives for the entry of a sector in its place; the answer says whether it gave
+// one: a bool, as of a set's `insert`, since there is nothing to tell of a refusal. Past the last sector the rule is asked for the entry of a map, and nothing is put.
+fn replace_at<F: FnOnce(Entry) -> Option<Entry>>(
+    entries: &mut [Entry; 32],
+    sector: u8,
+    rule: F,
+) -> bool
+    requires { F.IsAlwaysCallable rule }
+    ensures { (given : Option Entry) × F.post rule (slice_index_or entries.old sector Map) given × (result ≡ is_some given) × (entries.new ≡ put_in entries.old sector given) }
+{
+    let s = usize::from(sector);
+    let Some(entry) = rule(entries.get(s).copied().unwrap_or(Entry::Map)) else {
+        return false;
+    };
+    if s < 32 {
+        entries[s] = entry;
+    }
+    true
+}
+
 /// Marks the block of a sector as intending to be allocated to its owner, for a position. Only a
 /// free block can be; the answer says whether it was.
 pub fn intend_to_allocate(
@@ -48,17 +69,7 @@ pub fn intend_to_allocate(
     ensures value { result ≡ is_some (allocating position owner (slice_index_or entries.old sector Map)) }
     ensures after { entries.new ≡ put_in entries.old sector (allocating position owner (slice_index_or entries.old sector Map)) }
 {
-    let s = usize::from(sector);
-    if s >= 32 {
-        return false;
-    }
-    match allocate(entries[s], position, owner) {
-        Some(entry) => {
-            entries[s] = entry;
-            true
-        }
-        None => false,
-    }
+    replace_at(entries, sector, |entry| allocate(entry, position, owner))
 }
 
 /// Marks the block of a sector as intending to be deallocated. Only an allocated data block can be;
@@ -67,15 +78,5 @@ pub fn intend_to_deallocate(entries: &mut [Entry; 32], sector: u8) -> bool
     ensures value { result ≡ is_some (deallocating (slice_index_or entries.old sector Map)) }
     ensures after { entries.new ≡ put_in entries.old sector (deallocating (slice_index_or entries.old sector Map)) }
 {
-    let s = usize::from(sector);
-    if s >= 32 {
-        return false;
-    }
-    match deallocate(entries[s]) {
-        Some(entry) => {
-            entries[s] = entry;
-            true
-        }
-        None => false,
-    }
+    replace_at(entries, sector, deallocate)
 }

@@ -21,5 +21,6 @@ pub use laws::{
 };
 pub use settle::{
     clear_entry, clear_map, entry_counts, map_has_commit_bit, settle_entry, settle_map,
+    with_commit_bit,
 };
 pub use worked::{premises_are_needed, premises_can_be_met, worked_save_holds};

@@ -2,23 +2,30 @@
 ghost use Rattle.std.specs.Prelude.{◌≡◌, map};
 ghost use Rattle.volume.specs.Choosing.{any_committed};
 ghost use Rattle.volume.specs.Counting.{bit, has_tag, remains_as, state_counts, counts};
+ghost use Rattle.volume.specs.Committing.{marked};
 ghost use Rattle.volume.specs.Settling.{settled, cleared};
-ghost use Rattle.volume.specs.Tables.{table_entries};
+ghost use Rattle.volume.specs.Tables.{root_slot, table_entries};
 
 use map::{DataState, Entry, RootState, split};
 
-// The entry of a root place in the table.
+// Where the entry of a root place stands in the table.
+pub(crate) fn root_slot(r: u32) -> usize
+    ensures { result ≡ root_slot r }
+{
+    let (cylinder, sector) = split(r);
+    4 * cylinder as usize + (sector as usize).saturating_sub(1)
+}
+
+// The entry of a root place in the table, which stays a plain array: a type of its own would make
+// no contract shorter.
 fn root_entry(roots: &[Entry; 256], r: u32) -> Entry
     ensures { result ≡ table_entries roots.now r }
 {
-    let (cylinder, sector) = split(r);
-    if sector < 1 || sector > 4 {
+    let (_, sector) = split(r);
+    if !(1..=4).contains(&sector) {
         return Entry::Free;
     }
-    match roots.get(4 * cylinder as usize + (sector as usize - 1)) {
-        Some(entry) => *entry,
-        None => Entry::Free,
-    }
+    roots.get(root_slot(r)).copied().unwrap_or(Entry::Free)
 }
 
 // Whether the object of this tag remains at a root place with this entry.
@@ -27,16 +34,11 @@ fn remains(root: Entry, tag: u32) -> bool
 {
     match root {
         Entry::Root {
-            state: RootState::Allocated,
-            tag: held,
-            ..
-        } => held == tag,
-        Entry::Root {
             state: RootState::IntendingToDeallocate,
-            commit,
-            tag: held,
+            commit: true,
             ..
-        } => !commit && held == tag,
+        } => false,
+        Entry::Root { tag: held, .. } => held == tag,
         _ => false,
     }
 }
@@ -44,10 +46,7 @@ fn remains(root: Entry, tag: u32) -> bool
 fn commit_bit(root: Entry) -> bool
     ensures { result ≡ bit root }
 {
-    match root {
-        Entry::Root { commit, .. } => commit,
-        _ => false,
-    }
+    matches!(root, Entry::Root { commit: true, .. })
 }
 
 fn state_counts_with(state: DataState, commit: bool) -> bool
@@ -115,21 +114,44 @@ pub fn clear_entry(entry: Entry) -> Entry
 {
     match entry {
         Entry::Root {
-            state: RootState::Allocated,
-            kind,
-            tag,
-            ..
-        } => Entry::Root {
-            state: RootState::Allocated,
-            kind,
-            commit: false,
-            tag,
-        },
-        Entry::Root {
             state: RootState::IntendingToDeallocate,
             commit: true,
             ..
         } => Entry::Free,
+        Entry::Root {
+            state,
+            kind,
+            tag,
+            ..
+        } => Entry::Root {
+            state,
+            kind,
+            commit: false,
+            tag,
+        },
+        other => other,
+    }
+}
+
+/// The entry with its commit bit set, if it is that of a root place.
+pub fn with_commit_bit(entry: Entry) -> Entry
+    ensures { result ≡ marked entry }
+{
+    match entry {
+        Entry::Root {
+            state,
+            kind,
+            tag,
+            ..
+        } => {
+            let commit = true;
+            Entry::Root {
+                state,
+                kind,
+                commit,
+                tag,
+            }
+        }
         other => other,
     }
 }
@@ -138,6 +160,7 @@ pub fn clear_entry(entry: Entry) -> Entry
 pub fn settle_map(entries: &mut [Entry; 32], roots: &[Entry; 256])
     ensures { entries.new ≡ map (settled (table_entries roots.now)) entries.old }
 {
+    // Kept as a loop over the decoded entries, settling each: the named form.
     for slot in entries.iter_mut() {
         *slot = settle_entry(*slot, roots);
     }
@@ -147,18 +170,14 @@ pub fn settle_map(entries: &mut [Entry; 32], roots: &[Entry; 256])
 pub fn map_has_commit_bit(entries: &[Entry; 32]) -> bool
     ensures { result ≡ any_committed entries.now }
 {
-    for entry in entries {
-        if commit_bit(*entry) {
-            return true;
-        }
-    }
-    false
+    entries.iter().any(|entry| commit_bit(*entry))
 }
 
 /// Clears the commit bits of a map.
 pub fn clear_map(entries: &mut [Entry; 32])
     ensures { entries.new ≡ map cleared entries.old }
 {
+    // Kept as a loop over the decoded entries: the named form.
     for slot in entries.iter_mut() {
         *slot = clear_entry(*slot);
     }

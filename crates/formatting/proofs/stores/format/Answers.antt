@@ -4,6 +4,7 @@ use Rattle.formatting.proofs.Cylinders.{cylinder_more, cylinder_cut}
 use Rattle.formatting.proofs.stores.format.Goals as goal
 use Rattle.journal.proofs.Carrying.{none_stored}
 use Rattle.journal.specs.Carried.{planned}
+use Rattle.volume.specs.Volume.{cylinders_of}
 
 pub loop-cylinder-init : goal.loop-cylinder-init
 unfolding planned
@@ -17,7 +18,7 @@ returns-in_err-format_cylinder g c ready =
     let p = err_from_is_err_and c.from_residual.result c.from_residual.ensures.1 in
     rw p.1
     (cylinder_cut c.args.index (d.blocks c.args.device.now) (d.blocks now) (d.blocks end) (d.lit now) (d.lit end) c.loop-cylinder.cylinder c.loop-cylinder.count
-    (c.loop-cylinder.invariant.1 ready) c.args.cylinders (omega arith) c.in_err-format_cylinder.ensures)
+    (c.loop-cylinder.invariant.1 ready) (cylinders_of (d.blocks c.args.device.now)) (omega (arith, ready.few)) c.in_err-format_cylinder.ensures)
 
 pub loop-cylinder-preserved : goal.loop-cylinder-preserved
 loop-cylinder-preserved g c =

@@ -1,9 +1,9 @@
-use Rattle.std.proofs.Common.{◌≡◌, ◌+◌, ◌*◌, sym, ◌∙◌, subst, arith}
+use Rattle.std.proofs.Common.{◌≡◌, ◌+◌, ◌*◌, sym, ap, ◌∙◌, subst, arith}
 use Rattle.device.specs.Blocks.{block_at}
 use Rattle.journal.proofs.RootTable.{Tabled, tabled_start, tabled_some, tabled_none, tabled_all}
 use Rattle.journal.proofs.finishing.root_entries.Goals as goal
 use Rattle.journal.proofs.finishing.root_entries.Goals.{in-Some, in_default}
-use Rattle.volume.specs.Volume.{map_in, entry_at}
+use Rattle.volume.specs.Volume.{cylinders_of, map_in, map_at, entry_at}
 
 pub loop-cylinder-init : goal.loop-cylinder-init
 loop-cylinder-init g c ready = tabled_start (entry_at (g.D.Device.blocks c.args.device.now))
@@ -15,7 +15,8 @@ loop-cylinder-preserved g c ready =
     let roots = c.loop-cylinder.roots in
     let P = Tabled (entry_at blocks) (at + 1) in
     let read = c.in_ok-entries.ensures ready.on in
-    let map : map_in c.args.cylinders at (block_at blocks (32 * at)) ≡ c.in_ok-entries.field-0 = cc in
+    let all : c.cylinders-cylinders.result ≡ cylinders_of blocks = omega (arith, ready.few, c.cylinders-cylinders.ensures) in
+    let map : map_at blocks at ≡ c.in_ok-entries.field-0 = ap (λ n. map_in n at (block_at blocks (32 * at))) (sym all) ∙ cc in
     elim c.match-branch-2.branch [
       | in-Some w ↦
           subst P (sym (w.note_roots.ensures (omega (arith, ready.few))) ∙ sym w.roots-is)
@@ -24,4 +25,4 @@ loop-cylinder-preserved g c ready =
     ]
 
 pub returns : goal.returns
-returns g c ready = tabled_all ready c.loop-cylinder.cylinder c.loop-cylinder.roots (omega arith) (c.loop-cylinder.invariant ready)
+returns g c ready = tabled_all ready c.loop-cylinder.cylinder c.loop-cylinder.roots (omega (arith, ready.few)) (c.loop-cylinder.invariant ready)

@@ -1,8 +1,9 @@
 use Rattle.std.proofs.Common.{arith}
 use Rattle.std.proofs.lemmas.Result.{err_from_is_err_and}
 use Rattle.journal.specs.Carried.{planned}
-use Rattle.journal.proofs.Carrying.{none_stored, still_ready, ready_cylinders}
+use Rattle.journal.proofs.Carrying.{none_stored, still_ready}
 use Rattle.journal.proofs.Passing.{pass_more, pass_cut}
+use Rattle.volume.specs.Volume.{cylinders_of}
 use Rattle.journal.proofs.passes.pass.Goals as goal
 
 pub loop-cylinder-init : goal.loop-cylinder-init
@@ -22,8 +23,8 @@ returns-in_err-count g c =
       stores = λ ready.
           let first = c.loop-cylinder.invariant.1 ready in
           let went = c.in_err-count.ensures.stores (still_ready ready first) in
-          rw (p.1, ready_cylinders ready)
-          (pass_cut rule start c.loop-cylinder.cylinder c.loop-cylinder.count c.args.cylinders (d.blocks now) (d.blocks end) (d.lit now) (d.lit end) (omega arith) first went);
+          rw p.1
+          (pass_cut rule start c.loop-cylinder.cylinder c.loop-cylinder.count (cylinders_of start) (d.blocks now) (d.blocks end) (d.lit now) (d.lit end) (omega arith) first went);
     }
 
 pub loop-cylinder-preserved : goal.loop-cylinder-preserved

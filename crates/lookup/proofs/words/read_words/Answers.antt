@@ -3,8 +3,8 @@ use Rattle.lookup.specs.Reading.{position_words, word_shown, unreadable_in, word
 use Rattle.lookup.proofs.ReadingOn.{asked, passed, words_are, put_on, stopped, none_stops, all_read}
 use Rattle.lookup.proofs.words.read_words.Goals as goal
 
-pub returns-in-None : goal.returns-in-None
-returns-in-None g c =
+pub returns-in_default : goal.returns-in_default
+returns-in_default g c =
     let d = g.D.Device in
     let blocks = d.blocks c.args.device.now in
     let addresses = c.args.addresses.now in
@@ -13,12 +13,12 @@ returns-in-None g c =
     let is : d.lit c.args.device.now ≡ true → unreadable_in blocks addresses c.args.offset n ≡ Some (get_or addresses p 0) =
     λ on.
     let read = c.in_ok-words.ensures on in
-    let none : position_words blocks (get_or addresses p 0) ≡ None = cc (read, c.in-None.is) in
+    let none : position_words blocks (get_or addresses p 0) ≡ None = cc (read, c.in_default.is) in
     let has = asked blocks addresses c.args.offset n p c.loop-p.buffer true c.loop-p.auto.buffer c.if-not-has_word.ensures in
     stopped blocks addresses c.args.offset n p c.loop-p-test.true has none (c.loop-p.invariant on).1 in
     record {
       value = λ on. ap Ok (sym (is on));
-      after = λ on within. c.clear.ensures ∙ ap (λ m. replicate m 0) c.loop-p.auto.buffer
+      after = λ on within. (c.fill.ensures.after (λ y is. is)) ∙ ap (λ m. replicate m 0) c.loop-p.auto.buffer
           ∙ sym (ap (λ o. words_unless o blocks addresses c.args.offset n) (is on));
     }
 

@@ -5,5 +5,5 @@ use Rattle.map.proofs.cylinder.decode_map.Given as goal
 
 abbrev pub invariant-loop-s : goal.invariant-loop-s
 invariant-loop-s l =
-    (length l.entries ≡ 32)
-    × ((k : ℕ) → k < l.s → decoded_sector l.cylinders l.cylinder l.block k ≡ Some (get_or l.entries k Map))
+    (length l.entry-items ≡ 32)
+    × ((k : ℕ) → k < l.s → decoded_sector l.cylinders l.cylinder l.block k ≡ Some (get_or l.entry-items k Map))

@@ -1,5 +1,4 @@
-use Rattle.std.proofs.Common.{◌≡◌, ◌+◌, ◌-◌, ◌*◌, ◌<◌, length, get_or, sym, refl, ap, ◌∙◌, arith}
-use Rattle.std.proofs.lemmas.List.{take_all}
+use Rattle.std.proofs.Common.{◌≡◌, ◌+◌, ◌-◌, ◌*◌, ◌<◌, length, get_or, refl, ap, ◌∙◌, arith}
 use Rattle.map.specs.Entries.{encoded_entry}
 use Rattle.map.specs.Maps.{encoded_from}
 use Rattle.map.specs.declared.entry.Entry.TheVariants.{Map}
@@ -24,9 +23,3 @@ loop-s-preserved c =
       written_length block bytes entries a s k c.loop-s.invariant.0 (omega arith) within (omega arith) bytes_are,
       written_more block bytes entries a s k c.loop-s.invariant.0 (omega arith) within (omega arith) bytes_are c.loop-s.invariant.1,
     )
-
-pub returns : goal.returns
-returns c =
-    let entries = c.args.entries.now in
-    sym (take_all (16 * c.loop-s.s) c.loop-s.block (omega (arith, c.loop-s.invariant.0)))
-    ∙ c.loop-s.invariant.1 ∙ ap (encoded_from (32 * c.args.cylinder)) (take_all c.loop-s.s entries (omega (arith, c.told-entries)))

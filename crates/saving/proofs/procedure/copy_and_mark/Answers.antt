@@ -1,6 +1,6 @@
-use Rattle.std.proofs.Common.{[], ◌∷◌, length, ap, arith}
+use Rattle.std.proofs.Common.{[], ◌∷◌}
 use Rattle.std.proofs.lemmas.Result.{err_from_is_err_and}
-use Rattle.device.specs.PlanLaws.{wrote_length, cut_front, runs_on}
+use Rattle.device.specs.PlanLaws.{cut_front, runs_on}
 use Rattle.device.specs.Plans.{write}
 use Rattle.saving.specs.Procedure.{copies, marker_block}
 use Rattle.saving.proofs.procedure.copy_and_mark.Goals as goal
@@ -12,11 +12,6 @@ returns-in_err-copy g c =
     let blocks = g.D.Device.blocks in
     rw p.1
     (cut_front (blocks c.args.device.now) (copies c.args.job.now.parts c.args.from) (write 16 (marker_block c.args.mark) ∷ []) (blocks c.copy.new.device) ended.0, ended.1)
-
-pub put-requires : goal.put-requires
-put-requires g c =
-    let start = g.D.Device.blocks c.args.device.now in
-    omega (arith, ap length c.in_ok-copy.ensures.0, wrote_length start (copies c.args.job.now.parts c.args.from))
 
 pub returns : goal.returns
 returns g c =

@@ -1,6 +1,5 @@
-use Rattle.std.proofs.Common.{length, ap, arith}
 use Rattle.std.proofs.lemmas.Result.{err_from_is_err_and}
-use Rattle.device.specs.PlanLaws.{wrote_length, cut_front, runs_on}
+use Rattle.device.specs.PlanLaws.{cut_front, runs_on}
 use Rattle.saving.specs.Procedure.{copies_marked}
 use Rattle.saving.proofs.procedure.save.Goals as goal
 
@@ -11,12 +10,6 @@ returns-in_err-copy_and_mark g c =
     let blocks = g.D.Device.blocks in
     let parts = c.args.job.now.parts in
     rw p.1 (cut_front (blocks c.args.device.now) (copies_marked parts 8 1) (copies_marked parts 0 0) (blocks c.copy_and_mark.new.device) ended.0, ended.1)
-
-pub copy_and_mark-requires-2 : goal.copy_and_mark-requires-2
-copy_and_mark-requires-2 g c =
-    let start = g.D.Device.blocks c.args.device.now in
-    let kept = wrote_length start (copies_marked c.args.job.now.parts 8 1) in
-    (omega (arith, ap length c.in_ok-copy_and_mark.ensures.0), omega arith)
 
 pub returns : goal.returns
 returns g c =

@@ -1,6 +1,5 @@
-use Rattle.std.proofs.Common.{refl}
 use Rattle.device.proofs.Skews.{permutes}
 use Rattle.device.proofs.factor.Factor.place.Goals as goal
 
-pub returns : goal.returns
-returns c = record { value = refl; permutes = permutes c.args.self.k c.args.self.allowed }
+pub returns-clause-permutes : goal.returns-clause-permutes
+returns-clause-permutes c = permutes c.args.self.k c.args.self.allowed

@@ -9,8 +9,8 @@ unfolding zeros
 returns-in-Live c =
     let tagged = c.put_bytes.ensures ∙ ap (λ xs. placed 0 xs zeros) (c.to_le_bytes.ensures ∙ ap le4 c.tag.ensures) in
     let rooted = c.put_bytes-in-Live.ensures ∙ ap₂ (placed 4) (c.to_le_bytes-in-Live.ensures ∙ ap le4 c.root.ensures) tagged in
-    let kinded = c.put_bytes-in-Live-2.ensures ∙ ap₂ (λ k block. placed 8 (k ∷ []) block) c.number.ensures rooted in
-    c.put_addresses.ensures ∙ ap (placed 16 (bytes_of c.in-Live.root.blocks)) kinded ∙ ap encoded_root (sym c.in-Live.is)
+    let kinded = c.put_bytes-in-Live-2.ensures ∙ ap₂ (λ k block. placed 8 (k ∷ []) block) c.from.ensures rooted in
+    c.put_words.ensures ∙ ap (placed 16 (bytes_of c.in-Live.root.blocks)) kinded ∙ ap encoded_root (sym c.in-Live.is)
 
 pub returns-in_default : goal.returns-in_default
 unfolding zeros

@@ -1,12 +1,14 @@
-use Rattle.std.proofs.Common.{◌≡◌, false, not, ltb, Some, sym, refl, ap, ◌∙◌}
+use Rattle.std.proofs.Common.{◌≡◌, arith, false, not, ltb, Some, sym, refl, ap, ◌∙◌, subst}
 use Rattle.std.proofs.lemmas.Bool.{lt-ltb, ne_eqb}
 use Rattle.std.specs.Option.{ok_or}
 use Rattle.allocation.specs.Choosing.{free_root, chosen}
 use Rattle.journal.specs.Committing.{followed, create_plan}
 use Rattle.map.specs.Addresses.{cylinder_of}
 use Rattle.map.specs.Entries.{kind_of}
+use Rattle.object.specs.declared.root.Root.{Root as RootOf}
 use Rattle.store.proofs.Following.{ready_when, looked, stored, decided, tested}
-use Rattle.store.specs.Indexing.{indexed, free_for, entry_plan, new_identifier, created}
+use Rattle.store.specs.Decisions.{Goes, Follows}
+use Rattle.store.specs.Indexing.{create_rule, indexed, free_for, entry_plan, new_identifier}
 use Rattle.store.specs.Model.{seen}
 use Rattle.store.specs.declared.phase.Asked.TheVariants as asked
 use Rattle.store.specs.declared.refusals.Refusal.TheVariants as refusal
@@ -16,9 +18,9 @@ pub returns : goal.returns
 returns g c steady =
     let see = seen g.D.Device in
     let m = see c.args.self.now in
-    let e = c.args.e in
+    let e = c.in_ok-entry.entry in
     let tag = c.args.tag in
-    let object = c.in_ok-object.object in
+    let object = c.in_ok-index.index in
     let id = c.in_ok-id.id in
     let kind = c.in-Some.kind in
     let admit = c.in_ok-admit.ensures in
@@ -28,13 +30,18 @@ returns g c steady =
     let index = looked (λ all. indexed all c.args.index) m m (see c.index.new.self) c.index.result ready refl c.index.ensures in
     let place = looked (λ all. ok_or (new_identifier tag (chosen free_root (cylinder_of object.id.root) all)) refusal.Full) m (see c.index.new.self) (see c.new_identifier.new.self) c.new_identifier.result ready index.1 c.new_identifier.ensures in
     let free = looked (λ all. free_for all object e) m (see c.new_identifier.new.self) (see c.free_for.new.self) c.free_for.result ready place.1 c.free_for.ensures in
-    let goes = stored (followed (create_plan (created id kind)) (entry_plan object e (Some id) c.in_ok-b.b)) id m (see c.free_for.new.self) end r ready free.1 c.add.ensures in
-    let within : not (ltb e 4096) ≡ false = ap not (lt-ltb e 4096 c.if-e-ge4096.false) in
+    let root = c.new_root.result in
+    let entries = entry_plan object e (Some id) c.in_ok-block.block in
+    let goes = subst (λ (x : RootOf). Goes m (followed (create_plan x) entries m.blocks) x.id m.phase m.rows r end) c.new_root.ensures
+    (stored (followed (create_plan root) entries) root.id m (see c.free_for.new.self) end r ready free.1 c.add.ensures) in
+    let same : e ≡ c.args.e = c.in_ok-entry.ensures.0 in
+    let within : not (ltb e 4096) ≡ false = ap not (lt-ltb e 4096 (omega (arith, same, c.in_ok-entry.ensures.1))) in
     let known : Some kind ≡ kind_of c.args.kind = sym c.in-Some.is ∙ c.kind_named.ensures in
-    decided m r end _ admit
-    (decided m r end _ (sym c.in_ok-object.was ∙ index.0)
+    subst (λ n. Follows (create_rule c.args.index n c.args.kind c.args.tag m) m r end) same
+    (decided m r end _ admit
+    (decided m r end _ (sym c.in_ok-index.was ∙ index.0)
     (tested m r end refusal.Range _ within
     (decided m r end _ (ap (λ o. ok_or o refusal.Range) known)
     (tested m r end refusal.TagZero _ (ne_eqb tag 0 c.if-tag-eq0.false)
     (decided m r end _ (sym c.in_ok-id.was ∙ place.0)
-    (decided m r end _ (sym c.in_ok-b.was ∙ free.0) goes))))))
+    (decided m r end _ (sym c.in_ok-block.was ∙ free.0) goes)))))))

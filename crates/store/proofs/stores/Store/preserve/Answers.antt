@@ -1,7 +1,8 @@
-use Rattle.std.proofs.Common.{◌≡◌, false, not, ltb, Some, sym, refl, ap, ◌∙◌}
+use Rattle.std.proofs.Common.{◌≡◌, arith, false, not, ltb, Some, sym, refl, ap, ◌∙◌, subst}
 use Rattle.std.proofs.lemmas.Bool.{lt-ltb}
 use Rattle.store.proofs.Following.{ready_when, looked, stored, decided, tested}
-use Rattle.store.specs.Indexing.{indexed, free_for, entry_plan}
+use Rattle.store.specs.Decisions.{Follows}
+use Rattle.store.specs.Indexing.{preserve_rule, indexed, free_for, entry_plan}
 use Rattle.store.specs.Model.{seen}
 use Rattle.store.specs.Naming.{named}
 use Rattle.store.specs.declared.phase.Asked.TheVariants as asked
@@ -12,8 +13,8 @@ pub returns : goal.returns
 returns g c steady =
     let see = seen g.D.Device in
     let m = see c.args.self.now in
-    let e = c.args.e in
-    let object = c.in_ok-object.object in
+    let e = c.in_ok-entry.entry in
+    let object = c.in_ok-index.index in
     let kept = c.in_ok-kept.kept in
     let admit = c.in_ok-admit.ensures in
     let ready = ready_when m asked.Idle steady admit in
@@ -22,10 +23,12 @@ returns g c steady =
     let index = looked (λ all. indexed all c.args.index) m m (see c.index.new.self) c.index.result ready refl c.index.ensures in
     let name = looked (λ all. named all c.args.name) m (see c.index.new.self) (see c.object.new.self) c.object.result ready index.1 c.object.ensures in
     let free = looked (λ all. free_for all object e) m (see c.object.new.self) (see c.free_for.new.self) c.free_for.result ready name.1 c.free_for.ensures in
-    let goes = stored (entry_plan object e (Some kept.id) c.in_ok-b.b) tt m (see c.free_for.new.self) end r ready free.1 c.set_entry.ensures in
-    let within : not (ltb e 4096) ≡ false = ap not (lt-ltb e 4096 c.if-e-ge4096.false) in
-    decided m r end _ admit
-    (decided m r end _ (sym c.in_ok-object.was ∙ index.0)
+    let goes = stored (entry_plan object e (Some kept.id) c.in_ok-block.block) tt m (see c.free_for.new.self) end r ready free.1 c.set_entry.ensures in
+    let same : e ≡ c.args.e = c.in_ok-entry.ensures.0 in
+    let within : not (ltb e 4096) ≡ false = ap not (lt-ltb e 4096 (omega (arith, same, c.in_ok-entry.ensures.1))) in
+    subst (λ n. Follows (preserve_rule c.args.index n c.args.name m) m r end) same
+    (decided m r end _ admit
+    (decided m r end _ (sym c.in_ok-index.was ∙ index.0)
     (tested m r end refusal.Range _ within
     (decided m r end _ (sym c.in_ok-kept.was ∙ name.0)
-    (decided m r end _ (sym c.in_ok-b.was ∙ free.0) goes))))
+    (decided m r end _ (sym c.in_ok-block.was ∙ free.0) goes)))))

@@ -1,4 +1,4 @@
-use Rattle.std.proofs.Common.{◌≡◌, length, Ok, Err, refl, ap, ◌∙◌, subst}
+use Rattle.std.proofs.Common.{◌≡◌, length, Ok, refl, ap, ◌∙◌, subst}
 use Rattle.std.proofs.lemmas.List.{with_items_is}
 use Rattle.std.specs.Vec.{with_items}
 use Rattle.store.specs.Decisions.{Follows}
@@ -22,15 +22,4 @@ returns-in-Ok g c steady =
       result = Ok tt;
       follows = subst (λ n. Follows (read_rule name offset n m) m (Ok tt) (seen g.D.Device c.read.new.self)) long (read.rule steady);
       shown = (with_items words buffer, refl, with_items_is words buffer kept ∙ read.buffer steady ∙ ap (λ n. words_of_found m.blocks offset n (named m.blocks name)) long);
-    }
-
-pub returns-in-Err : goal.returns-in-Err
-returns-in-Err g c steady =
-    let m = seen g.D.Device c.args.self.now in
-    let why = c.in-Err.why in
-    let long : length c.as_mut_slice.result.now ≡ capped c.args.length = c.as_mut_slice.ensures.len ∙ c.in_ok-words.ensures.len ∙ c.min-n.ensures in
-    record {
-      result = Err why;
-      follows = subst (λ n. Follows (read_rule c.args.object c.args.offset n m) m (Err why) (seen g.D.Device c.read.new.self)) long (c.in-Err.ensures.rule steady);
-      shown = refl;
     }
