@@ -2,7 +2,7 @@
 use Rattle.std.proofs.Common.{◌≡◌, ℕ, zero, suc, ◌+◌, ◌-◌, ◌*◌, ◌%◌, ◌<◌, Bool, true, false, List, length, get_or, Some, None, Option, sym, refl, ap, ◌∙◌, ap₂, ⊎_elim, mod-eq_of_lt, arith}
 use native.Mathlib.Nat.{mod-add-mod, add-mod-mod, add-mod_right}
 use Rattle.std.proofs.lemmas.Nat.{mod_below}
-use Rattle.std.proofs.lemmas.Bool.{cases_eq, cases_Bool}
+use Rattle.std.proofs.lemmas.Bool.{cases_eq, cases_Bool, true≢false}
 use Rattle.std.specs.Option.{option_map}
 use Rattle.allocation.specs.Choosing.{tried, first_in, first_of, found_at, chosen}
 use Rattle.allocation.specs.ChoosingLaws.{ChosenLaw}
@@ -18,7 +18,7 @@ use Rattle.volume.specs.Volume.{cylinders_of, map_at, entry_in, entry_at}
 -- what is found comes from one of the answers
 first_from : (f : ℕ → Option ℕ) (n a : ℕ) → first_of f n ≡ Some a → (k : ℕ) × (k < n) × (f k ≡ Some a)
 unfolding first_of
-first_from f zero a is = absurd (let z : ◌≡◌ {A = ℕ} 0 1 = cc in omega arith)
+first_from f zero a is = absurd (true≢false cc)
 first_from f (suc n) a is = by (first_of f n) refl is (first_from f n a)
   where
     by : (o : Option ℕ) → first_of f n ≡ o → or_else o (f n) ≡ Some a → (first_of f n ≡ Some a → (k : ℕ) × (k < n) × (f k ≡ Some a)) → (k : ℕ) × (k < suc n) × (f k ≡ Some a)
@@ -32,7 +32,7 @@ first_misses f zero is k h = absurd (omega arith)
 first_misses f (suc n) is k h = by (first_of f n) refl is (first_misses f n)
   where
     by : (o : Option ℕ) → first_of f n ≡ o → or_else o (f n) ≡ None → (first_of f n ≡ None → (j : ℕ) → j < n → f j ≡ None) → f k ≡ None
-    by (Some d) found e below = absurd (let z : ◌≡◌ {A = ℕ} 0 1 = cc in omega arith)
+    by (Some d) found e below = absurd (true≢false cc)
     by None found e below = ⊎_elim (λ (same : k ≡ n). ap f same ∙ e) (λ ne. below found k (omega arith)) (cases_eq k n)
 
 -- every cylinder is tried
@@ -52,11 +52,11 @@ module _ (fits : ℕ → Entry → Bool) (c : ℕ) where
   test entries s = fits (32 * c + s) (get_or entries s Map)
 
   in_finds : (o : Option (List Entry)) (a : ℕ) → first_in fits c o ≡ Some a → (s : ℕ) × (s < 32) × (a ≡ 32 * c + s) × (fits (32 * c + s) (entry_in o s) ≡ true)
-  in_finds None a is = absurd (let z : ◌≡◌ {A = ℕ} 0 1 = cc in omega arith)
+  in_finds None a is = absurd (true≢false cc)
   in_finds (Some entries) a is = by (lowest (test entries) 32) refl is
     where
       by : (o : Option ℕ) → lowest (test entries) 32 ≡ o → option_map (λ s. 32 * c + s) o ≡ Some a → (s : ℕ) × (s < 32) × (a ≡ 32 * c + s) × (fits (32 * c + s) (get_or entries s Map) ≡ true)
-      by None found e = absurd (let z : ◌≡◌ {A = ℕ} 0 1 = cc in omega arith)
+      by None found e = absurd (true≢false cc)
       by (Some s) found e =
           let finds = lowest_finds (test entries) 32 s found in
           let same : a ≡ 32 * c + s = cc in
@@ -66,7 +66,7 @@ module _ (fits : ℕ → Entry → Bool) (c : ℕ) where
   in_misses entries is s h = by (lowest (test entries) 32) refl is
     where
       by : (o : Option ℕ) → lowest (test entries) 32 ≡ o → option_map (λ s. 32 * c + s) o ≡ None → test entries s ≡ false
-      by (Some d) found e = absurd (let z : ◌≡◌ {A = ℕ} 0 1 = cc in omega arith)
+      by (Some d) found e = absurd (true≢false cc)
       by None found e = ⊎_elim (λ (on : test entries s ≡ true). absurd (lowest_misses (test entries) 32 s found h on)) (λ off. off) (cases_Bool (test entries s))
 
 module _ (fits : ℕ → Entry → Bool) (start : ℕ) (blocks : List Block) where

@@ -1,12 +1,11 @@
 -- The first of several answers.
-use Rattle.std.proofs.Common.{◌≡◌, ℕ, zero, suc, ◌+◌, ◌<◌, ◌≤◌, Bool, true, false, List, is_some, MatchOption, Some, None, Ok, Option, Result, sym, refl, ap, ◌∙◌, ap₂, ⊎_elim, add-one, arith}
+use Rattle.std.proofs.Common.{◌≡◌, ℕ, zero, suc, ◌+◌, ◌<◌, ◌≤◌, Bool, true, false, List, is_some, Some, None, Ok, Option, Result, sym, refl, ap, ◌∙◌, ap₂, ⊎_elim, add-one, arith}
 use Rattle.std.proofs.lemmas.Bool.{cases_eq, true≢false, false≢true}
 use Rattle.allocation.specs.Choosing.{first_in, first_of, tried, found_at}
 use Rattle.device.specs.Blocks.{Block}
 use Rattle.map.specs.declared.entry.Entry.{Entry}
 use Rattle.device.specs.declared.power.PowerCut.{PowerCut}
-use Rattle.volume.proofs.Searching.{lowest_none, lowest_first}
-use Rattle.volume.specs.Search.{lowest, or_else}
+use Rattle.volume.specs.Search.{or_else}
 use Rattle.volume.specs.Volume.{cylinders_of, map_at}
 
 module _ (f : ℕ → Option ℕ) where
@@ -31,12 +30,6 @@ module _ (f : ℕ → Option ℕ) where
   pub first_answer : (n k : ℕ) (o : Option ℕ) → k < n → first_of f k ≡ None → f k ≡ o → is_some o ≡ true → first_of f n ≡ o
   first_answer n k None h below here some = absurd (false≢true some)
   first_answer n k (Some a) h below here some = first_found n k a h below here
-
--- the first of a range
-pub range_lowest : (f : ℕ → Bool) (n : ℕ) (r : Option ℕ) →
-    MatchOption r ((k : ℕ) → 0 ≤ k → k < n → f k ≡ false) (λ i. (0 ≤ i) × (i < n) × (f i ≡ true) × ((k : ℕ) → 0 ≤ k → k < i → f k ≡ false)) → r ≡ lowest f n
-range_lowest f n None none = sym (lowest_none f n (λ k h. none k (omega arith) h))
-range_lowest f n (Some i) is = sym (lowest_first f n i is.1 is.2 (λ k h. is.3 k (omega arith) h))
 
 pub no_answer : (o : Option ℕ) → is_some o ≡ false → o ≡ None
 no_answer None none = refl

@@ -13,9 +13,11 @@ use map::{Entry, join};
 fn first_in_map<W: Wanted>(wanted: &W, cylinder: u8, entries: &[Entry; 32]) -> Option<u16>
     ensures { result ≡ first_in (W.passes wanted.now) cylinder (Some entries.now) }
 {
-    (0..32)
-        .find(|s| wanted.fits(join(cylinder, *s), entries[usize::from(*s)]))
-        .map(|s| join(cylinder, s))
+    entries
+        .iter()
+        .enumerate()
+        .position(|(s, entry)| wanted.fits(join(cylinder, s as u8), *entry))
+        .map(|s| join(cylinder, s as u8))
 }
 
 // The lowest address of a cylinder that will do; none if its map cannot be used.

@@ -4,7 +4,7 @@ ghost use Rattle.allocation.specs.Choosing.{free_block, free_root};
 ghost use Rattle.map.specs.declared.entry.Entry.{Entry as MapEntry};
 
 use journal::{Row, position_of};
-use map::Entry;
+use map::{Entry, is_data_block, is_root_place};
 
 /// A test of an address and its entry.
 pub trait Wanted {
@@ -26,7 +26,7 @@ impl Wanted for FreeBlock {
     ghost passes = { λ s. free_block s.rows };
 
     fn fits(&self, a: u16, entry: Entry) -> bool {
-        a % 32 >= 5 && entry == Entry::Free && position_of(&self.rows, a).is_none()
+        is_data_block(u32::from(a)) && entry == Entry::Free && position_of(&self.rows, a).is_none()
     }
 }
 
@@ -38,6 +38,6 @@ impl Wanted for FreeRoot {
     ghost passes = { λ s. free_root };
 
     fn fits(&self, a: u16, entry: Entry) -> bool {
-        a % 32 >= 1 && a % 32 <= 4 && entry == Entry::Free
+        is_root_place(u32::from(a)) && entry == Entry::Free
     }
 }

@@ -60,7 +60,7 @@ fn one_cut(heap: Global) -> Result<Tally, AllocError> {
         if report.saved {
             return Ok(false);
         }
-        tally.note(first, Cut::NEVER, report.outcome)?;
+        tally.note(first, None, report.outcome)?;
         Ok(true)
     })?;
     Ok(tally)
@@ -78,7 +78,7 @@ fn two_cuts(heap: Global) -> Result<Tally, AllocError> {
             if report.cuts == 0 {
                 return Ok(false);
             }
-            tally.note(first, second, report.outcome)?;
+            tally.note(first, Some(second), report.outcome)?;
             Ok(true)
         })?;
         Ok(true)
@@ -89,8 +89,7 @@ fn two_cuts(heap: Global) -> Result<Tally, AllocError> {
 fn show_fault(rt: &HostRuntime, fault: &Fault) -> io::Result<()> {
     let Cut { at, manner } = fault.first;
     print!(rt; "    save cut at store {at:>2}, left {manner:<10}")?;
-    if fault.second != Cut::NEVER {
-        let Cut { at, manner } = fault.second;
+    if let Some(Cut { at, manner }) = fault.second {
         print!(rt; "  recovery cut at store {at}, left {manner:<10}")?;
     }
     println!(rt; "  {}", fault.outcome)

@@ -7,7 +7,7 @@ use std::alloc::{AllocError, Global};
 #[derive(Drop)]
 pub struct Fault {
     pub first: Cut,
-    pub second: Cut,
+    pub second: Option<Cut>,
     pub outcome: Outcome,
 }
 
@@ -32,7 +32,7 @@ impl Tally {
     pub(crate) fn note(
         &mut self,
         first: Cut,
-        second: Cut,
+        second: Option<Cut>,
         outcome: Outcome,
     ) -> Result<(), AllocError> {
         self.runs = self.runs.saturating_add(1);

@@ -1,6 +1,6 @@
 -- Why the store that is cut is the one that bears the armed cut's number.
 use Rattle.std.proofs.Common.{◌≡◌, ℕ, ◌+◌, ◌<◌, ◌≤◌, true, false, cond, eqb, ltb, Ok, Err, List, length, get_or, sym, refl, ap, ◌∙◌, ap₂, ⊎_elim, arith}
-use Rattle.std.proofs.lemmas.Bool.{cases_Bool, cases_lt, eqb-false, lt-ltb, ne_eqb}
+use Rattle.std.proofs.lemmas.Bool.{cases_Bool, cases_lt, eqb-false, lt-ltb, ne_eqb, true≢false}
 use Rattle.device.specs.Trials.{trial_blocks, never, armed_cut, hit, TrialStores, DoneInARow, NumberedStoreIsCut}
 use Rattle.device.specs.declared.answers.StoreError.TheVariants as storing
 use Rattle.device.specs.declared.cut.Cut.{Cut}
@@ -23,7 +23,7 @@ counted_on a now before after j same was ahead missed counts =
 done_not_hit : (u v : Trial) (b : ℕ) (bytes : List ℕ) → b < length (trial_blocks u) → u.lit ≡ true → TrialStores u b bytes (Ok tt) v → hit u ≡ false
 done_not_hit u v b bytes within on s =
     ⊎_elim
-    (λ (h : hit u ≡ true). let e : Ok tt ≡ Err storing.Dark = (s.cut within on h).0 in absurd (let z : ◌≡◌ {A = ℕ} 0 1 = cc in omega arith))
+    (λ (h : hit u ≡ true). let e : Ok tt ≡ Err storing.Dark = (s.cut within on h).0 in absurd (true≢false cc))
     (λ (h : hit u ≡ false). h)
     (cases_Bool (hit u))
 

@@ -3,6 +3,7 @@
 use Rattle.std.specs.Prelude.{◌≡◌, ℕ, zero, suc, ◌+◌, ◌<◌, List, [], ◌∷◌, length, Some, None, Option, slice_index_or}
 use Rattle.std.proofs.Math.Path.{refl, ap}
 use Rattle.std.proofs.Common.{sym, ◌∙◌, arith}
+use Rattle.std.proofs.lemmas.Bool.{true≢false}
 
 abbrev pub both : {X : Type 0} → Option X → Option (List X) → Option (List X)
 both None rest = None
@@ -51,8 +52,8 @@ module _ {X : Type 0} (f : ℕ → Option X) where
 
       step : ((ys : List X) → gathered f (from + 1) n ≡ Some ys → Each (from + 1) n ys) →
           (o : Option X) → f from ≡ o → (r : Option (List X)) → gathered f (from + 1) n ≡ r → both o r ≡ Some xs → Each from (suc n) xs
-      step more None here r rest is = absurd (let z : ◌≡◌ {A = ℕ} 0 1 = cc in omega arith)
-      step more (Some x) here None rest is = absurd (let z : ◌≡◌ {A = ℕ} 0 1 = cc in omega arith)
+      step more None here r rest is = absurd (true≢false cc)
+      step more (Some x) here None rest is = absurd (true≢false cc)
       step more (Some x) here (Some ys) rest is =
           let same : xs ≡ x ∷ ys = cc in
           let tail = more ys rest in

@@ -3,7 +3,7 @@ use Rattle.std.specs.Prelude.{◌≡◌, ℕ, ◌/◌, ◌<◌, ◌≤◌, List,
 use Rattle.std.proofs.Common.{sym, ap, ◌∙◌, ⊎_elim, arith}
 use Rattle.std.proofs.lemmas.List.FromFn.{length-map-range_with_len, get_or-map-range_with_len}
 use Rattle.std.proofs.lemmas.List.{length-take, length-drop, get_or_past}
-use Rattle.std.proofs.lemmas.Bool.{cases_lt}
+use Rattle.std.proofs.lemmas.Bool.{cases_lt, true≢false}
 use Rattle.device.specs.Blocks.{Block, Whole, block_at}
 use Rattle.device.specs.Images.{image_blocks, part}
 
@@ -26,5 +26,5 @@ image_whole bytes b held is =
     ap length (sym p) ∙ part_length bytes b h)
     (λ (h : length bytes / 512 ≤ b).
     let past : block_at (image_blocks bytes) b ≡ Block.unreadable = get_or_past (image_blocks bytes) b Block.unreadable (rw image_size h) in
-    let z : ◌≡◌ {A = ℕ} 0 1 = cc in omega arith)
+    absurd (true≢false cc))
     (cases_lt b (length bytes / 512))

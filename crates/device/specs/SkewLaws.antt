@@ -3,7 +3,7 @@ use Rattle.std.specs.Prelude.{◌≡◌, ℕ, ◌*◌, ◌/◌, ◌<◌, ◌≤�
 use Rattle.std.proofs.Common.{sym, ◌∙◌, ⊎_elim, arith}
 use Rattle.std.proofs.lemmas.List.FromFn.{length-map-range_with_len, get_or-map-range_with_len}
 use Rattle.std.proofs.lemmas.List.{get_or_past}
-use Rattle.std.proofs.lemmas.Bool.{cases_lt}
+use Rattle.std.proofs.lemmas.Bool.{cases_lt, true≢false}
 use Rattle.device.specs.Blocks.{Block, Whole, block_at}
 use Rattle.device.specs.Skews.{place, skewed}
 
@@ -21,5 +21,5 @@ skewed_whole k blocks whole b bytes is =
     (λ (h : b < 32 * (length blocks / 32)). whole (place k b) bytes (sym (skewed_at k blocks b h) ∙ is))
     (λ (h : 32 * (length blocks / 32) ≤ b).
     let past : block_at (skewed k blocks) b ≡ Block.unreadable = get_or_past (skewed k blocks) b Block.unreadable (rw skewed_size h) in
-    let z : ◌≡◌ {A = ℕ} 0 1 = cc in omega arith)
+    absurd (true≢false cc))
     (cases_lt b (32 * (length blocks / 32)))

@@ -1,6 +1,7 @@
 -- A trial drive's readable blocks have 512 bytes, and what follows from the definition at once.
 use Rattle.std.specs.Prelude.{◌≡◌, ℕ, zero, suc, ◌<◌, min, Bool, true, false, cond, List, [], ◌∷◌, length, ◌==◌, ◌≢◌, slice_index, refl}
 use Rattle.std.proofs.Common.{arith}
+use Rattle.std.proofs.lemmas.Bool.{true≢false}
 use Rattle.device.specs.Blocks.{Block, Whole, block_at}
 use Rattle.device.specs.Trials.{masked}
 
@@ -22,7 +23,7 @@ masked_at (x ∷ blocks) (m ∷ marks) zero h = refl
 masked_at (x ∷ blocks) (m ∷ marks) (suc b) h = masked_at blocks marks b (omega arith)
 
 never_readable : (bytes : List ℕ) → Block.unreadable ≢ Block.readable bytes
-never_readable bytes e = let z : ◌≡◌ {A = ℕ} 0 1 = cc in omega arith
+never_readable bytes e = true≢false cc
 
 -- what can be read through the marks is what stands below them
 pub masked_below : (blocks : List Block) (marks : List ℕ) (b : ℕ) (bytes : List ℕ) → block_at (masked blocks marks) b ≡ Block.readable bytes → block_at blocks b ≡ Block.readable bytes

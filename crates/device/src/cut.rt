@@ -6,6 +6,7 @@ use crate::answers::Manner;
 #[derive(Clone, Copy, PartialEq, Eq, Debug)]
 pub struct Cut {
     /// The number of the store that is cut.
+    // 0 and no Option for none: a drive has eight places for cuts, and numbers count from 1
     pub at: u32,
     /// How that store leaves its block.
     pub manner: Manner,

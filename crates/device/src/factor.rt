@@ -1,5 +1,5 @@
 // The factor of a skew.
-ghost use Rattle.std.specs.Prelude.{◌≡◌, ℕ, ◌≤◌, MatchResult};
+ghost use Rattle.std.specs.Prelude.{◌≡◌, MatchResult};
 ghost use Rattle.device.specs.Skews.{Allowed, place, Permutes};
 
 use std::error::Error;

@@ -25,6 +25,6 @@ pub fn put<D: Device>(device: &mut D, b: usize, bytes: &[u8; 512]) -> Result<(),
 {
     match device.store(b, bytes) {
         Err(StoreError::Dark) => Err(PowerCut),
-        _ => Ok(()),
+        Ok(()) | Err(StoreError::Outside) => Ok(()),
     }
 }

@@ -1,5 +1,5 @@
 // The trial drive: an image whose blocks can be unreadable and whose power fails at chosen stores.
-ghost use Rattle.std.specs.Prelude.{◌≡◌, ℕ, ◌<◌, true, [], length, vec_len, slice_set};
+ghost use Rattle.std.specs.Prelude.{◌≡◌, ◌<◌, true, cond, [], length, Some, None, slice_set};
 ghost use Rattle.device.specs.declared.answers.Manner.TheVariants.{Unreadable};
 ghost use Rattle.device.specs.Blocks.{Block, Reads, Stores};
 ghost use Rattle.device.specs.Trials.{trial_blocks, armed_cut, hit, count_on, Others, contents, filled, cut_contents, Made, TrialStores, TrialLights, NumberedStoreIsCut};
@@ -17,7 +17,8 @@ use crate::image::Image;
 /// last, and counts afresh the stores that pass the tests.
 #[derive(Drop)]
 pub struct Trial {
-    // bytes and marks are handed in and taken back as two lists, of lengths that need not agree
+    // bytes and marks are handed in and taken back as two lists, of lengths that need not agree;
+    // a mark is a byte as the caller has it, and any other than 0 marks
     image: Image,
     marks: Vec<u8>,
     cuts: [Cut; 8],
@@ -73,18 +74,18 @@ impl Trial {
         self.cuts.get(self.armed).copied().unwrap_or(Cut::NEVER)
     }
 
-    // Counts a store that has passed the tests, and says whether it is the one to be cut.
-    fn count(&mut self) -> bool
-        ensures value { result ≡ hit self.old }
+    // Counts a store that has passed the tests: the manner of the cut, if it is the one to be cut.
+    fn count(&mut self) -> Option<Manner>
+        ensures value { result ≡ cond (hit self.old) (Some (armed_cut self.old).manner) None }
         ensures same { (self.new.image ≡ self.old.image) × (self.new.marks ≡ self.old.marks) }
         ensures after { Others self.old (count_on self.old) self.old.lit self.new }
     {
-        let at = self.cut().at;
+        let Cut { at, manner } = self.cut();
         if self.stored >= at {
-            return false;
+            return None;
         }
         self.stored += 1;
-        self.stored == at
+        (self.stored == at).then_some(manner)
     }
 
     // Block `b` holds the bytes and can be read.
@@ -144,11 +145,10 @@ impl Device for Trial {
         if !self.lit {
             return Err(StoreError::Dark);
         }
-        let manner = self.cut().manner;
-        if !self.count() {
+        let Some(manner) = self.count() else {
             self.put(b, bytes);
             return Ok(());
-        }
+        };
         self.lit = false;
         match manner {
             Manner::Old => {}

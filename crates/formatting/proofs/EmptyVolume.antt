@@ -130,7 +130,7 @@ module _ (tag cylinders : ℕ) (blocks : List Block) (proper : is_tag tag ≡ tr
   complete some = record {
     usable = usable;
     single = single;
-    indexes = λ r p a object h is kinds found. absurd (let no : None ≡ Some a = sym (none_counted r p) ∙ found in let z : ◌≡◌ {A = ℕ} 0 1 = cc in omega arith);
+    indexes = λ r p a object h is kinds found. absurd (let no : None ≡ Some a = sym (none_counted r p) ∙ found in true≢false cc);
     root_index = (held kind.Index tag, ap remains_as (entries_are 1 (omega (arith, size))), refl);
   }
 

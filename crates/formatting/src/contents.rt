@@ -2,7 +2,7 @@
 ghost use Rattle.std.specs.Prelude.{◌≡◌};
 ghost use Rattle.formatting.specs.Formatting.{first_root, first_entry, first_map};
 
-use map::{Entry, Identifier, Kind, RootState, split};
+use map::{Entry, Identifier, Kind, split};
 use object::{Root, RootBlock};
 
 // The root block at address `a`: that of the root index at its place, a dead one at every other.
@@ -24,18 +24,14 @@ pub(crate) fn first_root(index: Identifier, a: u32) -> RootBlock
 fn first_entry(tag: u32) -> Entry
     ensures { result ≡ first_entry tag }
 {
-    Entry::Root {
-        state: RootState::Allocated,
-        kind: Kind::Index,
-        commit: false,
-        tag,
-    }
+    Entry::of_root(Kind::Index, tag)
 }
 
 // The entries of a cylinder's map: its own, and that of the root index if its place is there.
 pub(crate) fn first_map(index: Identifier, cylinder: u8) -> [Entry; 32]
     ensures { result ≡ first_map index cylinder }
 {
+    // two lines, as a lost map has them: one function would need a definition for both
     let mut entries = [Entry::Free; 32];
     entries[0] = Entry::Map;
     let (c, s) = split(index.root());

@@ -35,6 +35,7 @@ impl<E: Error> From<E> for LineError {
     }
 }
 
+// no FromStr: words are bytes, and `Manner` belongs to device
 fn manner(word: &[u8]) -> Option<Manner> {
     match word {
         b"old" => Some(Manner::Old),

@@ -1,8 +1,10 @@
 // What is printed for a line of a script.
+use device::ReadError;
 use std::fmt;
 use store::{Answer, Call};
 
 /// The word that a call begins with.
+// no method: `Call` belongs to store, which knows no words
 pub fn verb(call: &Call) -> &'static str {
     match call {
         Call::Format { .. } => "format",
@@ -55,29 +57,23 @@ impl fmt::Display for Answered<'_> {
     }
 }
 
-/// What a look at a block shows; it prints whole lines.
+/// What a look at a block shows: its bytes, or why there are none. It prints whole lines, with 32
+/// bytes to a line.
 #[derive(Clone, Copy)]
-pub enum Look {
-    /// The block's bytes, 32 to a line.
-    Bytes([u8; 512]),
-    /// There is no such block.
-    Outside,
-    /// It cannot be read.
-    Unreadable,
-}
+pub struct Look(pub Result<[u8; 512], ReadError>);
 
 impl fmt::Display for Look {
     fn fmt<W: fmt::Write>(&self, f: &mut fmt::Formatter<W>) -> fmt::Result {
-        match self {
-            Look::Bytes(bytes) => {
+        match &self.0 {
+            Ok(bytes) => {
                 for (i, b) in bytes.iter().enumerate() {
                     let end = if i % 32 == 31 { '\n' } else { ' ' };
                     write!(f, "{b:02x}{end}")?;
                 }
                 Ok(())
             }
-            Look::Outside => writeln!(f, "dump: refused 9"),
-            Look::Unreadable => writeln!(f, "unreadable"),
+            Err(ReadError::Outside) => writeln!(f, "dump: refused 9"),
+            Err(ReadError::Dark | ReadError::Unreadable) => writeln!(f, "unreadable"),
         }
     }
 }

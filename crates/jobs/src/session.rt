@@ -84,11 +84,7 @@ impl Session {
             Session::Asked { .. } => Ok(()),
             Session::Playing { store, .. } => store.device().peek(b as usize, &mut bytes),
         };
-        Ok(match read {
-            Ok(()) => Look::Bytes(bytes),
-            Err(ReadError::Outside) => Look::Outside,
-            Err(ReadError::Dark | ReadError::Unreadable) => Look::Unreadable,
-        })
+        Ok(Look(read.map(|()| bytes)))
     }
 }
 

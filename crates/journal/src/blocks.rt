@@ -45,6 +45,7 @@ pub fn load_map<D: Device>(
 
 /// The root block at a root place in a volume of so many cylinders, if it can be read and is well
 /// formed.
+// Not one function with load_map: over any decoder it would need a clause on what that is handed.
 pub fn load_root<D: Device>(
     device: &D,
     r: u32,

@@ -1,8 +1,7 @@
 // Committing a transaction, and creating an object.
-ghost use Rattle.std.specs.Prelude.{◌≡◌, ◌+◌, ◌≤◌, IfOk};
+ghost use Rattle.std.specs.Prelude.{◌≡◌, ◌≤◌, ◌==◌, if◌then◌else◌, Some, None, IfOk};
 ghost use Rattle.journal.specs.Carried.{CarriesAll};
-ghost use Rattle.map.specs.Addresses.{cylinder_of};
-ghost use Rattle.map.specs.declared.entry.Entry.{Entry as MapEntry};
+ghost use Rattle.map.specs.Addresses.{cylinder_of, sector_of};
 ghost use Rattle.journal.specs.Committing.{place_rule, followed, root_plan, commit_plan, create_plan, new_root};
 ghost use Rattle.journal.specs.Passes.{pass_writes};
 ghost use Rattle.volume.specs.Committing.{marked};
@@ -11,7 +10,7 @@ use crate::mark::Marking;
 use crate::passes::{MapRule, pass, pass_cylinder};
 use crate::row::Row;
 use device::{Device, PowerCut, put};
-use map::{Entry, Identifier, Kind, RootState, split};
+use map::{Entry, Identifier, Kind, split};
 use object::{Root, RootBlock};
 use volume::with_commit_bit;
 
@@ -21,31 +20,22 @@ pub struct CommitBit {
     pub id: Identifier,
 }
 
-// The entries of a cylinder with that of root place `r` changed, if it is there.
-fn change_at<F: FnOnce(Entry) -> Entry>(
-    r: u32,
-    cylinder: u8,
-    entries: &[Entry; 32],
-    change: F,
-) -> Option<[Entry; 32]>
-    requires { F.IsAlwaysCallable change }
-    ensures { (g : MapEntry → MapEntry) → ((e f : MapEntry) → F.post change e f → f ≡ g e) → result ≡ place_rule r g cylinder entries.now }
+// The sector of root place `r`, if it is in this cylinder.
+fn sector_in(r: u32, cylinder: u8) -> Option<usize>
+    ensures { result ≡ (if cylinder == cylinder_of r then Some (sector_of r) else None) }
 {
     let (c, s) = split(r);
-    if u32::from(cylinder) != c {
-        return None;
-    }
-    let mut changed = *entries;
-    changed[s as usize] = change(changed[s as usize]);
-    Some(changed)
+    (u32::from(cylinder) == c).then_some(s as usize)
 }
 
 impl MapRule for CommitBit {
     ghost rule = { λ s. place_rule s.id.root marked };
 
     fn changed(&self, cylinder: u8, entries: &[Entry; 32]) -> Option<[Entry; 32]> {
-        let r = self.id.root();
-        change_at(r, cylinder, entries, |entry| with_commit_bit(entry))
+        let s = sector_in(self.id.root(), cylinder)?;
+        let mut changed = *entries;
+        changed[s] = with_commit_bit(changed[s]);
+        Some(changed)
     }
 }
 
@@ -60,14 +50,10 @@ impl MapRule for NewRoot {
     ghost rule = { λ s. place_rule s.id.root (new_root s.kind s.id.tag) };
 
     fn changed(&self, cylinder: u8, entries: &[Entry; 32]) -> Option<[Entry; 32]> {
-        let r = self.id.root();
-        let first = Entry::Root {
-            state: RootState::Allocated,
-            kind: self.kind,
-            commit: false,
-            tag: self.id.tag(),
-        };
-        change_at(r, cylinder, entries, |_| first)
+        let s = sector_in(self.id.root(), cylinder)?;
+        let mut changed = *entries;
+        changed[s] = Entry::of_root(self.kind, self.id.tag());
+        Some(changed)
     }
 }
 

@@ -35,7 +35,7 @@ pub fn root_entries<D: Device>(device: &D) -> Result<[Entry; 256], PowerCut>
     Ok(roots)
 }
 
-// The two rules below have one shape: a function that takes the test and a closure would be longer.
+// Both rules below return early: a closure for `then` that changes a copy would need a clause of its own.
 
 /// Settles each map that needs it.
 #[derive(Clone, Copy)]

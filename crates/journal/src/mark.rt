@@ -6,7 +6,8 @@ ghost use Rattle.journal.specs.Rules.{each_at, any_at};
 use crate::passes::MapRule;
 use crate::row::Row;
 use crate::rows::{position_of, row_of};
-use map::{DataState, Entry, Identifier, join};
+use map::{Entry, Identifier, join};
+use volume::{allocate, deallocate};
 
 /// The intentions of a transaction on one object.
 #[derive(Clone, Copy)]
@@ -28,23 +29,12 @@ impl Marking {
         ensures { result ≡ (if intends self.now.owner self.now.rows a entry then Some (intended self.now.owner self.now.rows a entry) else None) }
     {
         match entry {
-            Entry::Free => {
-                let position = position_of(&self.rows, a)?;
-                Some(Entry::Data {
-                    state: DataState::IntendingToAllocate,
-                    position,
-                    owner: self.owner,
-                })
-            }
+            Entry::Free => allocate(entry, position_of(&self.rows, a)?, self.owner),
             Entry::Data {
-                state: DataState::Allocated,
                 position,
                 owner,
-            } if self.gives_up(position, owner) => Some(Entry::Data {
-                state: DataState::IntendingToDeallocate,
-                position,
-                owner,
-            }),
+                ..
+            } if self.gives_up(position, owner) => deallocate(entry),
             _ => None,
         }
     }

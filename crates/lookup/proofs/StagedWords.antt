@@ -1,7 +1,7 @@
 -- The words of a staged block.
 use Rattle.std.proofs.Common.{◌≡◌, ℕ, ◌+◌, ◌-◌, ◌^◌, ◌<◌, ◌≤◌, Bool, true, false, cond, leb, List, ◌++◌, length, get_or, take, drop, Some, None, refl, ap, ◌∙◌, ⊎_elim, arith}
 use Rattle.std.proofs.lemmas.List.{length-append, length-take, length-drop, get_or_append_left, get_or-append_right, get_or-take, get_or-drop, get_or_past}
-use Rattle.std.proofs.lemmas.Bool.{cases_lt, leb-true}
+use Rattle.std.proofs.lemmas.Bool.{cases_lt, leb-true, true≢false}
 use Rattle.object.specs.Words.{words_of, bytes_of, WordsReturn}
 use Rattle.lookup.specs.Staging.{staged, StagedWords}
 
@@ -41,4 +41,4 @@ staged_return back words first new block long small small_new is = go (leb (firs
         small_append b (take first words) (new ++ drop (first + length new) words) (small_take b first words (omega arith) small)
         (small_append b new (drop (first + length new) words) small_new (small_drop b (first + length new) words small)) in
         ap words_of same ∙ back.words (staged words first new) (staged_long words first new (omega arith) ∙ long) each
-    go false fits e = absurd (let z : ◌≡◌ {A = ℕ} 0 1 = cc in omega arith)
+    go false fits e = absurd (true≢false cc)

@@ -4,21 +4,17 @@ ghost use Rattle.journal.specs.Carried.{TellsAll};
 ghost use Rattle.lookup.specs.Finding.{found_root, found_by, found, no_blocks, held};
 ghost use Rattle.volume.specs.Volume.{entry_at, root_at};
 
-use crate::objects::Object;
 use device::{Device, PowerCut};
 use journal::{cylinders, load_map, load_root};
-use map::{Entry, Identifier, Kind, RootState, split};
-use object::RootBlock;
+use map::{Entry, Identifier, Kind, RootState, is_root_place, split};
+use object::{Root, RootBlock};
 
 // The object that a root block says, if it is live with this identifier.
-fn object_in(id: Identifier, kind: Kind, root: Option<RootBlock>) -> Option<Object>
+fn object_in(id: Identifier, kind: Kind, root: Option<RootBlock>) -> Option<Root>
     ensures { result ≡ found_root id kind root }
 {
     match root {
-        Some(RootBlock::Live(root)) if root.id == id => {
-            let blocks = root.blocks;
-            Some(Object { id, kind, blocks })
-        }
+        Some(RootBlock::Live(root)) if root.id == id => { Some(Root { kind, ..root }) }
         _ => None,
     }
 }
@@ -42,8 +38,7 @@ fn entry_of<D: Device>(device: &D, a: u32) -> Result<Entry, PowerCut>
 fn root_of<D: Device>(device: &D, a: u32) -> Result<Option<RootBlock>, PowerCut>
     ensures { TellsAll D.Device device.now (λ all. root_at all a) result }
 {
-    let (_, sector) = split(a);
-    if sector >= 1 && sector <= 4 {
+    if is_root_place(a) {
         load_root(device, a, cylinders(device))
     } else {
         Ok(None)
@@ -51,7 +46,7 @@ fn root_of<D: Device>(device: &D, a: u32) -> Result<Option<RootBlock>, PowerCut>
 }
 
 // The object that a root entry and a root block say.
-fn object_by(id: Identifier, entry: Entry, root: Option<RootBlock>) -> Option<Object>
+fn object_by(id: Identifier, entry: Entry, root: Option<RootBlock>) -> Option<Root>
     ensures { result ≡ found_by id entry root }
 {
     match entry {
@@ -66,7 +61,7 @@ fn object_by(id: Identifier, entry: Entry, root: Option<RootBlock>) -> Option<Ob
 }
 
 /// The object of this identifier, if it exists.
-pub fn find<D: Device>(device: &D, id: Identifier) -> Result<Option<Object>, PowerCut>
+pub fn find<D: Device>(device: &D, id: Identifier) -> Result<Option<Root>, PowerCut>
     ensures { TellsAll D.Device device.now (λ all. found all id) result }
 {
     let entry = entry_of(device, id.root())?;
@@ -82,10 +77,10 @@ pub fn no_blocks() -> [u16; 64]
 }
 
 /// The object of this identifier; one without blocks if it does not exist.
-pub fn held<D: Device>(device: &D, id: Identifier) -> Result<Object, PowerCut>
+pub fn held<D: Device>(device: &D, id: Identifier) -> Result<Root, PowerCut>
     ensures { TellsAll D.Device device.now (λ all. held all id) result }
 {
-    let blank = Object {
+    let blank = Root {
         id,
         kind: Kind::Special,
         blocks: no_blocks(),

@@ -2,11 +2,9 @@
 #![tactic(auto)]
 
 mod finding;
-mod objects;
 mod stage;
 mod words;
 
 pub use finding::{find, held, no_blocks};
-pub use objects::Object;
 pub use stage::{entered_block, staged_block, staged_words_return};
 pub use words::{position_bytes, position_words, read_words};

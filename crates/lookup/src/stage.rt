@@ -21,6 +21,8 @@ fn staged_words(words: &[u16; 256], first: usize, new: &[u16]) -> [u16; 256]
 pub fn staged_block(words: &[u16; 256], first: usize, new: &[u16]) -> Option<[u8; 512]>
     ensures { result ≡ staged_block words.now first new.now }
 {
+    // Not by `replace_words`: it tells the words of its block, and no bound of the bytes comes with them
+    // to tell the bytes by.
     if new.len() > 256 || first > 256 - new.len() {
         return None;
     }

@@ -24,6 +24,7 @@ pub fn position_words<D: Device>(device: &D, a: u16) -> Result<Option<[u16; 256]
     if a == 0 {
         return Ok(Some([0; 256]));
     }
+    // By let else: the check proves it alone, and not a `map` over the bytes.
     let Some(bytes) = load(device, usize::from(a))? else {
         return Ok(None);
     };
@@ -56,6 +57,7 @@ fn put_position(buffer: &mut [u16], offset: usize, p: usize, words: &[u16; 256])
 /// position's block, or 0. Each position that has one of the words is read once. If one cannot be
 /// read, the answer is the address of the first such, and the buffer is zero. The words are to lie
 /// inside the object, below word 16384.
+// An Option inside the Result: an error of its own for it would be a Result in a Result.
 pub fn read_words<D: Device>(
     device: &D,
     addresses: &[u16; 64],

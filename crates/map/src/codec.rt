@@ -3,7 +3,7 @@ ghost use Rattle.std.specs.Prelude.{◌≡◌};
 ghost use Rattle.std.specs.Str.{bytes_eq};
 ghost use Rattle.map.specs.Entries.{sixteen, encoded_entry, fits_entry, read_entry, decoded_entry};
 
-use crate::address::split;
+use crate::address::{is_data_block, is_root_place, split};
 use crate::entry::{DataState, Entry, RootState};
 use crate::identifier::Identifier;
 use crate::kind::Kind;
@@ -49,12 +49,12 @@ impl Entry {
         match self {
             Entry::Map => sector == 0,
             Entry::Free => sector > 0,
-            Entry::Root { tag, .. } => (1..=4).contains(&sector) && tag > 0,
+            Entry::Root { tag, .. } => is_root_place(a) && tag > 0,
             Entry::Data {
                 position,
                 owner,
                 ..
-            } => sector >= 5 && position < 64 && owner.root() / 32 < cylinders,
+            } => is_data_block(a) && position < 64 && owner.root() / 32 < cylinders,
         }
     }
 
@@ -63,6 +63,7 @@ impl Entry {
         ensures { result ≡ read_entry a part.now }
     {
         let (_, sector) = split(a);
+        // two patterns: one of all these names is laid out a name to a line
         let [state, kind, commit, position, ..] = *part;
         let [.., t0, t1, t2, t3, r0, r1, r2, r3] = *part;
         let tag = u32::from_le_bytes([t0, t1, t2, t3]);

@@ -1,5 +1,7 @@
 // What a cylinder map says of one sector, and the number that stands for each state.
-ghost use Rattle.std.specs.Prelude.{◌≡◌, ok_or};
+ghost use Rattle.std.specs.Prelude.{◌≡◌, false, ok_or};
+ghost use Rattle.map.specs.declared.entry.Entry.TheVariants.{Root};
+ghost use Rattle.map.specs.declared.entry.RootState.TheVariants as root_state;
 ghost use Rattle.map.specs.Entries.{root_state_number, data_state_number, root_state_of, data_state_of};
 
 use crate::identifier::Identifier;
@@ -10,21 +12,16 @@ use std::fmt;
 /// The state of a root place that an object holds.
 #[derive(Clone, Copy, PartialEq, Eq, Debug)]
 pub enum RootState {
-    /// 1
-    Allocated,
-    /// 3
-    IntendingToDeallocate,
+    Allocated = 1,
+    IntendingToDeallocate = 3,
 }
 
 /// The state of a data block that an object holds.
 #[derive(Clone, Copy, PartialEq, Eq, Debug)]
 pub enum DataState {
-    /// 1
-    Allocated,
-    /// 2
-    IntendingToAllocate,
-    /// 3
-    IntendingToDeallocate,
+    Allocated = 1,
+    IntendingToAllocate = 2,
+    IntendingToDeallocate = 3,
 }
 
 /// A number that stands for no state.
@@ -53,14 +50,25 @@ pub enum Entry {
     },
 }
 
+impl Entry {
+    /// The entry of an object's root place, allocated and without the commit bit.
+    pub fn of_root(kind: Kind, tag: u32) -> Entry
+        ensures { result ≡ Root root_state.Allocated kind false tag }
+    {
+        Entry::Root {
+            state: RootState::Allocated,
+            kind,
+            commit: false,
+            tag,
+        }
+    }
+}
+
 impl From<RootState> for u8 {
     ghost from_gives = { λ state n. n ≡ root_state_number state };
 
     fn from(state: RootState) -> u8 {
-        match state {
-            RootState::Allocated => 1,
-            RootState::IntendingToDeallocate => 3,
-        }
+        state as u8
     }
 }
 
@@ -82,11 +90,7 @@ impl From<DataState> for u8 {
     ghost from_gives = { λ state n. n ≡ data_state_number state };
 
     fn from(state: DataState) -> u8 {
-        match state {
-            DataState::Allocated => 1,
-            DataState::IntendingToAllocate => 2,
-            DataState::IntendingToDeallocate => 3,
-        }
+        state as u8
     }
 }
 

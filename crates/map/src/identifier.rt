@@ -2,7 +2,7 @@
 ghost use Rattle.std.specs.Prelude.{◌≡◌};
 ghost use Rattle.map.specs.Identifiers.{identified};
 
-use crate::address::split;
+use crate::address::is_root_place;
 
 /// The name of an object: a tag that is not 0, and the address of a root place in cylinders 0
 /// to 63.
@@ -17,8 +17,7 @@ impl Identifier {
     pub fn new(tag: u32, root: u32) -> Option<Identifier>
         ensures { result ≡ identified tag root }
     {
-        let (cylinder, sector) = split(root);
-        let named = tag > 0 && (1..=4).contains(&sector) && cylinder < 64;
+        let named = tag > 0 && is_root_place(root) && root / 32 < 64;
         named.then_some(Identifier { tag, root })
     }
 

@@ -8,12 +8,12 @@ use std::fmt;
 /// What an object is.
 #[derive(Clone, Copy, PartialEq, Eq, Debug)]
 pub enum Kind {
-    /// 1: a file whose blocks may be overwritten in place.
-    Normal,
-    /// 2: a file that changes only by transactions.
-    Special,
-    /// 3: a table of identifiers.
-    Index,
+    /// A file whose blocks may be overwritten in place.
+    Normal = 1,
+    /// A file that changes only by transactions.
+    Special = 2,
+    /// A table of identifiers.
+    Index = 3,
 }
 
 /// A number that stands for no kind.
@@ -24,11 +24,7 @@ impl From<Kind> for u8 {
     ghost from_gives = { λ kind n. n ≡ kind_number kind };
 
     fn from(kind: Kind) -> u8 {
-        match kind {
-            Kind::Normal => 1,
-            Kind::Special => 2,
-            Kind::Index => 3,
-        }
+        kind as u8
     }
 }
 

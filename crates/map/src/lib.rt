@@ -9,7 +9,7 @@ mod examples;
 mod identifier;
 mod kind;
 
-pub use address::{join, split};
+pub use address::{is_data_block, is_root_place, join, split};
 pub use cylinder::{decode_map, encode_map, maps_return};
 pub use entry::{DataState, Entry, NoState, RootState};
 pub use examples::map_examples_hold;

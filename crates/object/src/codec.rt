@@ -5,7 +5,7 @@ ghost use Rattle.object.specs.Roots.{encoded_root, fits_address, all_fit, fits_r
 
 use crate::bytes::{number_at, put_bytes, put_words, word_at};
 use crate::root::{Root, RootBlock};
-use map::{Identifier, Kind};
+use map::{Identifier, Kind, is_data_block};
 use std::array;
 
 // The 64 addresses of a block.
@@ -19,7 +19,7 @@ fn addresses(block: &[u8; 512]) -> [u16; 64]
 fn fits(x: u16, cylinders: u8) -> bool
     ensures { result ≡ fits_address cylinders x }
 {
-    x == 0 || (x % 32 >= 5 && x / 32 < u16::from(cylinders))
+    x == 0 || (is_data_block(u32::from(x)) && x / 32 < u16::from(cylinders))
 }
 
 fn all_fit(blocks: &[u16; 64], cylinders: u8) -> bool

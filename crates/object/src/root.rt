@@ -7,11 +7,12 @@ use map::{Identifier, Kind};
 pub struct Root {
     pub id: Identifier,
     pub kind: Kind,
-    // 0 for none, as in the bytes: an Option would be turned into it and back at each end
+    // 0 for none, as in the bytes, and as the definitions and laws of volumes say it
     pub blocks: [u16; 64],
 }
 
 /// A root block.
+// no Option<Root>: what is decoded would be an Option of one, None if ill formed, Some(None) if dead
 #[derive(Clone, Copy, PartialEq, Eq, Debug)]
 pub enum RootBlock {
     /// 512 zeros.

@@ -46,13 +46,13 @@ lowest_all f n a is h = is_false (f a) (λ on. true≢false (sym (lowest_some f 
 -- nor does anything below what it finds
 lowest_least : (f : ℕ → Bool) (n b a : ℕ) → lowest f n ≡ Some b → a < b → f a ≡ false
 unfolding lowest
-lowest_least f zero b a is h = absurd (let z : ◌≡◌ {A = ℕ} 0 1 = cc in omega arith)
+lowest_least f zero b a is h = absurd (true≢false cc)
 lowest_least f (suc n) b a is h = by (lowest f n) refl (f n) is (λ d found below. lowest_least f n d a found below)
   where
     by : (o : Option ℕ) → lowest f n ≡ o → (t : Bool) → or_else o (cond t (Some n) None) ≡ Some b → ((d : ℕ) → lowest f n ≡ Some d → a < d → f a ≡ false) → f a ≡ false
     by (Some d) found t e before = let same : d ≡ b = cc in before d found (omega arith)
     by None found true e before = let same : n ≡ b = cc in lowest_all f n a found (omega arith)
-    by None found false e before = absurd (let z : ◌≡◌ {A = ℕ} 0 1 = cc in omega arith)
+    by None found false e before = absurd (true≢false cc)
 
 -- a place and a position, as one number
 module _ (R : RootBlocks) (a r p : ℕ) (few : p < 64) where
@@ -132,7 +132,7 @@ lowest_law = record {
   where
     named : (c a : ℕ) (ts : List Bool) (o : Option ℕ) → lowest (λ s. get_or ts s false) 32 ≡ o → address_in c o ≡ Some a →
         (s : ℕ) × (s < 32) × (a ≡ 32 * c + s) × (get_or ts s false ≡ true) × ((k : ℕ) → k < s → get_or ts k false ≡ false)
-    named c a ts None found is = absurd (let z : ◌≡◌ {A = ℕ} 0 1 = cc in omega arith)
+    named c a ts None found is = absurd (true≢false cc)
     named c a ts (Some s) found is =
         let finds = lowest_finds (λ k. get_or ts k false) 32 s found in
         let address : a ≡ 32 * c + s = cc in
@@ -140,4 +140,4 @@ lowest_law = record {
 
     unnamed : (c : ℕ) (o : Option ℕ) → address_in c o ≡ None → o ≡ None
     unnamed c None is = refl
-    unnamed c (Some s) is = absurd (let z : ◌≡◌ {A = ℕ} 0 1 = cc in omega arith)
+    unnamed c (Some s) is = absurd (true≢false cc)

@@ -4,7 +4,7 @@ ghost use Rattle.map.specs.Addresses.{sector_of};
 ghost use Rattle.rebuild.specs.Noting.{no_places, in_lost, place_kept, shown_by, owner_root, bit_noted, bits_noted};
 ghost use Rattle.rebuild.specs.Taking.{empty_map, none_twice, held_in, twice_in, held_from, twice_from, root_in_map, root_taken, root_twice, lowest_twice};
 
-use map::{DataState, Entry, Identifier, RootState, join, split};
+use map::{DataState, Entry, Identifier, is_data_block, is_root_place, join, split};
 use object::{Root, RootBlock};
 use volume::with_commit_bit;
 
@@ -13,7 +13,8 @@ use volume::with_commit_bit;
 pub struct LostMap {
     /// The cylinder.
     pub cylinder: u8,
-    /// The entries so far: an array of their own, since they are stored as a whole map.
+    /// The entries so far.
+    // Apart from `twice`: they are stored as a whole map.
     pub entries: [Entry; 32],
     /// Which sectors more than one root place and position hold.
     pub twice: [bool; 32],
@@ -50,8 +51,7 @@ impl LostMap {
         let RootBlock::Live(live) = root else {
             return;
         };
-        let (_, sector) = split(r);
-        if !(1..=4).contains(&sector) {
+        if !is_root_place(r) {
             return;
         }
         self.put_root(r, live);
@@ -64,12 +64,7 @@ impl LostMap {
     {
         let (of, sector) = split(r);
         if of == u32::from(self.cylinder) {
-            self.entries[sector as usize] = Entry::Root {
-                state: RootState::Allocated,
-                kind: root.kind,
-                commit: false,
-                tag: root.id.tag(),
-            };
+            self.entries[sector as usize] = Entry::of_root(root.kind, root.id.tag());
         }
     }
 
@@ -81,7 +76,7 @@ impl LostMap {
         } }
     {
         let (of, sector) = split(u32::from(a));
-        if of != u32::from(self.cylinder) || sector < 5 {
+        if of != u32::from(self.cylinder) || !is_data_block(u32::from(a)) {
             return;
         }
         let s = sector as usize;
@@ -123,7 +118,7 @@ impl LostMap {
         ensures { result ≡ (if in_lost self.now.cylinder r then Some (sector_of r - 1) else None) }
     {
         let (of, sector) = split(r);
-        if of == u32::from(self.cylinder) && (1..=4).contains(&sector) {
+        if of == u32::from(self.cylinder) && is_root_place(r) {
             Some(sector as usize - 1)
         } else {
             None

@@ -1,7 +1,7 @@
 -- What the intentions of a transaction say of each position: the block that its row gives it.
 use Rattle.std.proofs.Common.{◌≡◌, ℕ, ◌*◌, ◌<◌, Bool, true, false, cond, ◌&&◌, eqb, List, length, Some, None, Option, sym, refl, ap, ◌∙◌, subst, ⊎_elim, arith}
 use Rattle.std.proofs.lemmas.List.{get_or_past}
-use Rattle.std.proofs.lemmas.Bool.{and_parts, and_from, and_cases, eqb-true, eq-eqb, lt-ltb, cases_lt, both_ways}
+use Rattle.std.proofs.lemmas.Bool.{and_parts, and_from, and_cases, eqb-true, eq-eqb, lt-ltb, cases_lt, both_ways, true≢false}
 use Rattle.device.specs.Blocks.{Block}
 use Rattle.journal.specs.Marking.{same_object, gives_up, new_entry, intended}
 use Rattle.journal.specs.Rows.{is_touched, is_new, row_of, position_of}
@@ -26,7 +26,7 @@ use Rattle.volume.specs.Volume.{cylinders_of, entry_at}
 -- a state that is kept under a test is the one that was there
 pub kept_state : (t : Bool) (x y : DataState) → cond t (Some x) None ≡ Some y → (t ≡ true) × (x ≡ y)
 kept_state true x y is = (refl, cc)
-kept_state false x y is = absurd (let z : ◌≡◌ {A = ℕ} 0 1 = cc in omega arith)
+kept_state false x y is = absurd (true≢false cc)
 
 -- the three tests of an entry of the object, for a position
 of_object : (r tag p position : ℕ) (owner : Identifier) → (eqb owner.root r && eqb position p && eqb tag owner.tag) ≡ true →
@@ -53,16 +53,16 @@ module _ (E : Entries) (owner : Identifier) (rows : List Row) (p a : ℕ) where
 
   -- an entry of a volume at rest, once it is marked
   pub marks : (e : Entry) → Quiet E e → (state : DataState) → state_for owner.root owner.tag p (intended owner rows a e) ≡ Some state → Says rows p a state
-  marks Map quiet state is = absurd (let z : ◌≡◌ {A = ℕ} 0 1 = cc in omega arith)
+  marks Map quiet state is = absurd (true≢false cc)
   marks Free quiet state is = by (position_of rows a) refl is
     where
       by : (o : Option ℕ) → position_of rows a ≡ o → state_for owner.root owner.tag p (new_entry owner o) ≡ Some state → Says rows p a state
-      by None found has = absurd (let z : ◌≡◌ {A = ℕ} 0 1 = cc in omega arith)
+      by None found has = absurd (true≢false cc)
       by (Some q) found has =
           let kept = kept_state (eqb owner.root owner.root && eqb q p && eqb owner.tag owner.tag) data_state.IntendingToAllocate state has in
           let tests = of_object owner.root owner.tag p q owner kept.0 in
           subst (Says rows p a) kept.1 (ap (row_of rows) (sym tests.1) ∙ (new_row rows a q found).0)
-  marks (Root s kind commit tag) quiet state is = absurd (let z : ◌≡◌ {A = ℕ} 0 1 = cc in omega arith)
+  marks (Root s kind commit tag) quiet state is = absurd (true≢false cc)
   marks (Data data_state.Allocated position held) quiet state is = by (gives_up owner rows position held) refl is
     where
       by : (t : Bool) → gives_up owner rows position held ≡ t →
@@ -105,7 +105,7 @@ module _ (blocks : List Block) (root : RootOf) (rows : List Row) (saves : Saves 
   row_within : (p b : ℕ) → row_of rows p ≡ New b → p < length rows
   row_within p b row =
       ⊎_elim (λ (h : p < length rows). h)
-      (λ past. let none : row_of rows p ≡ Untouched = get_or_past rows p Untouched past in absurd (let z : ◌≡◌ {A = ℕ} 0 1 = cc in omega arith))
+      (λ past. let none : row_of rows p ≡ Untouched = get_or_past rows p Untouched past in absurd (true≢false cc))
       (cases_lt p (length rows))
 
   takes_up : (p b : ℕ) → row_of rows p ≡ New b → position_of rows b ≡ Some p
@@ -124,7 +124,7 @@ module _ (blocks : List Block) (root : RootOf) (rows : List Row) (saves : Saves 
   row_becomes p Untouched is =
       subst (Becomes marked_entries n r tag p) (((mark_harmless blocks root rows saves).same (below (cylinders_of blocks))).counted r p)
       (Becomes.untouched
-      (λ a h state. let new = says p a h data_state.IntendingToAllocate state in let z : ◌≡◌ {A = ℕ} 0 1 = cc in omega arith)
+      (λ a h state. let new = says p a h data_state.IntendingToAllocate state in true≢false cc)
       (λ a h state. both_ways (is_touched (row_of rows p)) (ap is_touched is) (says p a h data_state.IntendingToDeallocate state)))
   row_becomes p (New b) is =
       Becomes.renewed b (saves.new p b is).within (new_state p b is)
@@ -133,4 +133,4 @@ module _ (blocks : List Block) (root : RootOf) (rows : List Row) (saves : Saves 
   row_becomes p Cleared is =
       Becomes.emptied
       (λ a h state. both_ways (is_touched (row_of rows p)) (says p a h data_state.Allocated state) (ap is_touched is))
-      (λ a h state. let new = says p a h data_state.IntendingToAllocate state in let z : ◌≡◌ {A = ℕ} 0 1 = cc in omega arith)
+      (λ a h state. let new = says p a h data_state.IntendingToAllocate state in true≢false cc)

@@ -1,7 +1,7 @@
 -- Why the stores of a commit change one object, all of it or nothing.
 use Rattle.std.proofs.Common.{◌≡◌, ℕ, ◌*◌, ◌%◌, ◌<◌, ◌≤◌, Bool, true, false, cond, ◌&&◌, eqb, List, [], ◌∷◌, ◌++◌, Some, None, Option, sym, refl, ap, ◌∙◌, subst, ap₂, subst₂, inl, ⊎_elim, arith}
 use mathlib.Core.Path.{fun_ext}
-use Rattle.std.proofs.lemmas.Bool.{eq-eqb, ne_eqb, cases_eq}
+use Rattle.std.proofs.lemmas.Bool.{eq-eqb, ne_eqb, cases_eq, true≢false}
 use Rattle.device.specs.Blocks.{Block, block_at}
 use Rattle.device.specs.PlanLaws.{wrote_append, cut_either}
 use Rattle.device.specs.Plans.{Write, wrote, CutIn}
@@ -45,9 +45,9 @@ use Rattle.volume.specs.Volume.{cylinders_of, entry_at, is_unreadable, words_in,
 
 -- at rest, every entry of an object is allocated
 quiet_state : (E : Entries) (r tag p : ℕ) (e : Entry) → Quiet E e → (state : DataState) → state_for r tag p e ≡ Some state → state ≡ data_state.Allocated
-quiet_state E r tag p Map quiet state is = absurd (let z : ◌≡◌ {A = ℕ} 0 1 = cc in omega arith)
-quiet_state E r tag p Free quiet state is = absurd (let z : ◌≡◌ {A = ℕ} 0 1 = cc in omega arith)
-quiet_state E r tag p (Root s kind commit of) quiet state is = absurd (let z : ◌≡◌ {A = ℕ} 0 1 = cc in omega arith)
+quiet_state E r tag p Map quiet state is = absurd (true≢false cc)
+quiet_state E r tag p Free quiet state is = absurd (true≢false cc)
+quiet_state E r tag p (Root s kind commit of) quiet state is = absurd (true≢false cc)
 quiet_state E r tag p (Data data_state.Allocated position owner) quiet state is =
     sym (kept_state (eqb owner.root r && eqb position p && eqb tag owner.tag) data_state.Allocated state is).1
 quiet_state E r tag p (Data data_state.IntendingToAllocate position owner) quiet state is = absurd quiet
@@ -114,7 +114,7 @@ module _ (blocks : List Block) (root : RootOf) (rows : List Row) (saves : Saves 
           let same : d ≡ b = cc in
           let new = saves.new p b (row ∙ ap New same) in
           (new.place, new.within)
-      by Cleared row found = absurd (let z : ◌≡◌ {A = ℕ} 0 1 = cc in omega arith)
+      by Cleared row found = absurd (true≢false cc)
 
   committed : Committed (32 * cylinders_of mid) r tag (entry_at mid) (with_bit r (entry_at mid))
   committed = commit_law (entry_at mid) (32 * cylinders_of mid) r tag root.kind mid_root
@@ -189,8 +189,8 @@ module _ (blocks : List Block) (root : RootOf) (rows : List Row) (saves : Saves 
     as_it_was : (p : ℕ) → Becomes E n r tag p (counted_at E n r p)
     as_it_was p =
         Becomes.untouched
-        (λ a h state. let held_so = quiet_state E r tag p (E a) (saves.rest.quiet a h) data_state.IntendingToAllocate state in let z : ◌≡◌ {A = ℕ} 0 1 = cc in omega arith)
-        (λ a h state. let held_so = quiet_state E r tag p (E a) (saves.rest.quiet a h) data_state.IntendingToDeallocate state in let z : ◌≡◌ {A = ℕ} 0 1 = cc in omega arith)
+        (λ a h state. let held_so = quiet_state E r tag p (E a) (saves.rest.quiet a h) data_state.IntendingToAllocate state in true≢false cc)
+        (λ a h state. let held_so = quiet_state E r tag p (E a) (saves.rest.quiet a h) data_state.IntendingToDeallocate state in true≢false cc)
 
     same_block : (p : ℕ) → o p ≡ counted_at E n r p
     same_block p =

@@ -2,7 +2,7 @@
 use Rattle.std.proofs.Common.{◌≡◌, ℕ, zero, suc, ◌+◌, ◌*◌, ◌<◌, ◌≤◌, Bool, true, false, cond, ◌||◌, eqb, ltb, ◌≢◌, List, [], ◌∷◌, map, length, get_or, Some, None, sym, refl, ap, ◌∙◌, subst, ap₂, ⊎_elim, arith}
 use mathlib.Core.Path.{fun_ext}
 use Rattle.std.proofs.lemmas.Nat.{mod_below}
-use Rattle.std.proofs.lemmas.Bool.{or_parts, lt-ltb, le-ltb, eq-eqb, ne_eqb, cases_eq, cases_lt}
+use Rattle.std.proofs.lemmas.Bool.{or_parts, lt-ltb, le-ltb, eq-eqb, ne_eqb, cases_eq, cases_lt, true≢false}
 use Rattle.device.specs.Blocks.{Block, block_at}
 use Rattle.device.specs.Gathers.{gathered_each}
 use Rattle.journal.proofs.EachAt.{each_length, each_entry}
@@ -26,7 +26,7 @@ pub map_long : (blocks : List Block) (c : ℕ) (entries : List Entry) → map_at
 map_long blocks c entries is = by (block_at blocks (32 * c)) is
   where
     by : (b : Block) → map_in (cylinders_of blocks) c b ≡ Some entries → length entries ≡ 32
-    by Block.unreadable f = absurd (let z : ◌≡◌ {A = ℕ} 0 1 = cc in omega arith)
+    by Block.unreadable f = absurd (true≢false cc)
     by (Block.readable bytes) f = (gathered_each (decoded_sector (cylinders_of blocks) c bytes) 32 0 entries f).long
 
 -- where no entry passes, each fails
@@ -117,7 +117,7 @@ module _ (t : ℕ → Entry → Bool) (f : ℕ → Entry → Entry) (blocks : Li
         (cases_eq (cylinder_of a) c)
 
     stays : (u : Bool) → any_at t (32 * c) entries ≡ u → cond u (Some (each_at f (32 * c) entries)) None ≡ None → changed_at (below (suc c)) f E ≡ changed_at (below c) f E
-    stays true some rules = absurd (let z : ◌≡◌ {A = ℕ} 0 1 = cc in omega arith)
+    stays true some rules = absurd (true≢false cc)
     stays false none rules = fun_ext (λ a. more E (idle_here none) a ∙ rejoin a)
 
     -- entry k of the changed map
@@ -144,7 +144,7 @@ module _ (t : ℕ → Entry → Bool) (f : ℕ → Entry → Entry) (blocks : Li
           fun_ext (more (λ b. get_or new (sector_of b) Map)
               (λ b here. sym (entry new same (sector_of b) (mod_below b 32 (omega arith)) ∙ ap (λ x. f x (E x)) (joined b here)))),
         )
-    writes new false none rules = absurd (let z : ◌≡◌ {A = ℕ} 0 1 = cc in omega arith)
+    writes new false none rules = absurd (true≢false cc)
 
   pub pointwise_steps : Steps (pointwise t f) blocks (λ c. changed_at (below c) f (entry_at blocks))
   pointwise_steps = record {

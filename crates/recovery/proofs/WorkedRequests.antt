@@ -1,5 +1,6 @@
 -- Why these requests may be made of the volume at rest.
 use Rattle.std.proofs.Common.{◌≡◌, ℕ, zero, suc, ◌*◌, ◌/◌, ◌<◌, ◌≤◌, false, List, [], ◌∷◌, length, get_or, replicate, Some, None, Option, sym, refl, ap, ◌∙◌, subst, arith, lit≤}
+use Rattle.std.proofs.lemmas.Bool.{true≢false}
 use Rattle.device.specs.Gathers.{gathered}
 use Rattle.journal.specs.Carried.{planned}
 use Rattle.journal.specs.Committing.{commit_plan}
@@ -66,10 +67,10 @@ same_thing (suc m) (suc k) x = same_thing m k x
 
 -- one row is new
 only_new : (p b : ℕ) → row_of asked_rows p ≡ New b → (p ≡ 2) × (b ≡ 38)
-only_new zero b is = absurd (let z : ◌≡◌ {A = ℕ} 0 1 = cc in omega arith)
-only_new (suc zero) b is = absurd (let z : ◌≡◌ {A = ℕ} 0 1 = cc in omega arith)
+only_new zero b is = absurd (true≢false cc)
+only_new (suc zero) b is = absurd (true≢false cc)
 only_new (suc (suc zero)) b is = (refl, cc)
-only_new (suc (suc (suc k))) b is = let none : get_or (replicate 61 Untouched) k Untouched ≡ Untouched = same_thing 61 k Untouched in absurd (let z : ◌≡◌ {A = ℕ} 0 1 = cc in omega arith)
+only_new (suc (suc (suc k))) b is = let none : get_or (replicate 61 Untouched) k Untouched ≡ Untouched = same_thing 61 k Untouched in absurd (true≢false cc)
 
 asked_address : (p : ℕ) → p < 64 → get_or asked_root.blocks p 0 ≡ address_or_0 (block_after resting 2 p (row_of asked_rows p))
 asked_address zero h = refl
@@ -100,7 +101,7 @@ requests_met = record {
     apart = λ p q b one two. (only_new p b one).0 ∙ sym (only_new q b two).0;
     long = refl;
     addresses = asked_address;
-    readable = λ index. absurd (let z : ◌≡◌ {A = ℕ} 0 1 = cc in omega arith);
+    readable = λ index. absurd (true≢false cc);
   };
   stores = four;
   creates = record {

@@ -1,11 +1,13 @@
 -- How a call comes to follow its rule: admitted, looking at its device step by step, and storing in the end.
-use Rattle.std.proofs.Common.{◌≡◌, ℕ, Bool, false, List, Ok, Result, sym, ap, ◌∙◌, subst, arith}
+use Rattle.std.proofs.Common.{◌≡◌, ℕ, Bool, false, List, Ok, Err, IsErrAnd, Result, sym, ap, ◌∙◌, subst, arith}
+use Rattle.std.proofs.lemmas.Bool.{true≢false}
 use Rattle.device.specs.Blocks.{Block}
 use Rattle.device.specs.Plans.{Write}
 use Rattle.journal.specs.Carried.{Ready}
 use Rattle.store.specs.Admission.{admitted}
 use Rattle.store.specs.Decisions.{Decision, Goes, Follows, decide, unless}
-use Rattle.store.specs.Model.{Model, Steady, SteadyIn}
+use Rattle.store.specs.Model.{Model, Steady}
+use Rattle.store.specs.Steady.{SteadyIn}
 use Rattle.store.specs.declared.phase.Asked.{Asked}
 use Rattle.store.specs.declared.phase.Phase.{Phase}
 use Rattle.store.specs.declared.phase.Phase.TheVariants as phase
@@ -20,7 +22,7 @@ pub ready_when : (m : Model) (ask : Asked) → Steady m → Ok tt ≡ admitted m
 ready_when m ask steady ok = by m.phase steady ok
   where
     by : (p : Phase) → SteadyIn p m.blocks m.lit → Ok tt ≡ admitted p ask → ReadyFor m
-    by phase.Down s e = absurd (let z : ◌≡◌ {A = ℕ} 0 1 = cc in omega arith)
+    by phase.Down s e = absurd (true≢false cc)
     by phase.Idle s e = s
     by (phase.Open id) s e = s
     by (phase.Waiting id) s e = s
@@ -38,6 +40,11 @@ pub stored : {A : Type 0} (plan : List Block → List Write) (answer : A) (m now
 stored plan answer m now after r ready same goes =
     subst (λ (k : Model). Goes k (plan k.blocks) answer k.phase k.rows r after) same (goes (subst ReadyFor (sym same) ready))
 
+-- an error that is known is the answer
+pub err_is : {A : Type 0} (r : Result A Refusal) (why : Refusal) → IsErrAnd r (λ y. y ≡ why) → r ≡ Err why
+err_is (Ok x) why h = absurd h
+err_is (Err y) why h = ap Err h
+
 -- one step of a rule
 module _ {A : Type 0} (m : Model) (r : Result A Refusal) (after : Model) where
   pub decided : {X : Type 0} {d : Result X Refusal} {x : X} (more : X → Decision A) → Ok x ≡ d → Follows (more x) m r after → Follows (decide d more) m r after
@@ -45,3 +52,6 @@ module _ {A : Type 0} (m : Model) (r : Result A Refusal) (after : Model) where
 
   pub tested : {t : Bool} (why : Refusal) (more : Decision A) → t ≡ false → Follows more m r after → Follows (unless t why more) m r after
   tested {t} why more is h = subst (λ b. Follows (unless b why more) m r after) (sym is) h
+
+  pub refused : {X : Type 0} {d : Result X Refusal} {why : Refusal} (more : X → Decision A) → Err why ≡ d → r ≡ Err why → after ≡ m → Follows (decide d more) m r after
+  refused more is says same = subst (λ o. Follows (decide o more) m r after) is (says, same)

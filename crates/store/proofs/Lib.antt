@@ -1,4 +1,5 @@
 pub mod Deleting
 pub mod Following
+pub mod NewObjects
 pub mod Playing
 pub mod Steadiness

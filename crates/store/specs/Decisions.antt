@@ -11,7 +11,7 @@ use Rattle.device.specs.Plans.{Write, wrote, CutIn}
 use Rattle.device.specs.declared.device.Device.{Ghosts}
 use Rattle.journal.specs.Carried.{Ready}
 use Rattle.journal.specs.declared.row.Row.{Row}
-use Rattle.store.specs.Model.{Model, seen, Steady}
+use Rattle.store.specs.Model.{Model, seen}
 use Rattle.store.specs.declared.phase.Phase.{Phase}
 use Rattle.store.specs.declared.phase.Phase.TheVariants as phase
 use Rattle.store.specs.declared.refusals.Refusal.{Refusal}
@@ -45,8 +45,8 @@ abbrev pub Follows : {A : Type 0} → Decision A → Model → Result A Refusal 
 Follows (Decision.refuse why) m r m' = (r ≡ Err why) × (m' ≡ m)
 Follows (Decision.go plan answer after rows) m r m' = Goes m plan answer after rows r m'
 
-abbrev pub Obeys : {D A : Type 0} → Ghosts D → (Model → Decision A) → Store D → Result A Refusal → Store D → Type 0
-Obeys meaning rule store r store' = Steady (seen meaning store) → Follows (rule (seen meaning store)) (seen meaning store) r (seen meaning store')
+abbrev pub Obeys : {D A : Type 0} → (meaning : Ghosts D) → (Model → Decision A) → Store D meaning → Result A Refusal → Store D meaning → Type 0
+Obeys meaning rule store r store' = Follows (rule (seen meaning store)) (seen meaning store) r (seen meaning store')
 
 -- a step of a rule: refused, or on with what it found
 abbrev pub decide : {X A : Type 0} → Result X Refusal → (X → Decision A) → Decision A
@@ -64,7 +64,7 @@ unless true why more = Decision.refuse why
 unless false why more = more
 
 -- on a ready device, the stores of a plan and nothing else; where power fails, the store is down
-abbrev pub StoresAll : {D A : Type 0} → Ghosts D → (List Block → List Write) → A → Store D → Result A Refusal → Store D → Type 0
+abbrev pub StoresAll : {D A : Type 0} → (meaning : Ghosts D) → (List Block → List Write) → A → Store D meaning → Result A Refusal → Store D meaning → Type 0
 StoresAll meaning plan answer store r store' =
     Ready (meaning.blocks store.device) (meaning.lit store.device) (cylinders_of (meaning.blocks store.device)) →
     Goes (seen meaning store) (plan (seen meaning store).blocks) answer (seen meaning store).phase (seen meaning store).rows r (seen meaning store')

@@ -27,5 +27,5 @@ format_rule tag m =
     (unless (not (sized (length m.blocks))) refusal.Size
     (Decision.go (format_plan (index_of tag) (length m.blocks / 32)) (index_of tag) phase.Idle no_rows))
 
-abbrev pub Formats : {D : Type 0} → Ghosts D → ℕ → Store D → Result Identifier Refusal → Store D → Type 0
+abbrev pub Formats : {D : Type 0} → (meaning : Ghosts D) → ℕ → Store D meaning → Result Identifier Refusal → Store D meaning → Type 0
 Formats meaning tag store r store' = Follows (format_rule tag (lit_up (seen meaning store))) (lit_up (seen meaning store)) r (seen meaning store')

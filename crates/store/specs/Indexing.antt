@@ -18,7 +18,6 @@ use Rattle.journal.specs.declared.row.Row.{Row}
 use Rattle.journal.specs.declared.row.Row.TheVariants.{New}
 use Rattle.lookup.specs.Finding.{no_blocks}
 use Rattle.lookup.specs.Reading.{position_bytes}
-use Rattle.lookup.specs.declared.objects.Object.{Object}
 use Rattle.map.specs.Addresses.{cylinder_of}
 use Rattle.map.specs.Entries.{kind_of}
 use Rattle.map.specs.Identifiers.{identified}
@@ -38,29 +37,29 @@ use Rattle.store.specs.declared.phase.Asked.TheVariants as asked
 use Rattle.store.specs.declared.refusals.Refusal.{Refusal}
 use Rattle.store.specs.declared.refusals.Refusal.TheVariants as refusal
 
-abbrev pub index_only : Object → Result Object Refusal
+abbrev pub index_only : RootOf → Result RootOf Refusal
 index_only object = cond (is_index object.kind) (Ok object) (Err refusal.WrongKind)
 
-abbrev pub indexed : List Block → Name → Result Object Refusal
+abbrev pub indexed : List Block → Name → Result RootOf Refusal
 indexed blocks name = bound (named blocks name) index_only
 
-abbrev pub entry_address : Object → ℕ → ℕ
+abbrev pub entry_address : RootOf → ℕ → ℕ
 entry_address object e = slice_index object.blocks (index_position e)
 
-abbrev pub entry_held : List Block → Object → ℕ → Option Identifier
+abbrev pub entry_held : List Block → RootOf → ℕ → Option Identifier
 entry_held blocks object e = entry_of (position_bytes blocks (entry_address object e)) e
 
-abbrev pub free_for : List Block → Object → ℕ → Result ℕ Refusal
+abbrev pub free_for : List Block → RootOf → ℕ → Result ℕ Refusal
 free_for blocks object e = ok_or (chosen (free_block no_rows) (start_of object (entry_address object e)) blocks) refusal.Full
 
 -- the rows of a transaction that gives an entry's position a new block
 abbrev pub entry_rows : ℕ → ℕ → List Row
 entry_rows e b = slice_set no_rows (index_position e) (New b)
 
-abbrev pub entry_block_plan : Object → ℕ → Option Identifier → ℕ → List Block → List Write
+abbrev pub entry_block_plan : RootOf → ℕ → Option Identifier → ℕ → List Block → List Write
 entry_block_plan object e id b blocks = write b (entered (position_bytes blocks (entry_address object e)) e id) ∷ []
 
-abbrev pub entry_plan : Object → ℕ → Option Identifier → ℕ → List Block → List Write
+abbrev pub entry_plan : RootOf → ℕ → Option Identifier → ℕ → List Block → List Write
 entry_plan object e id b =
     followed (entry_block_plan object e id b)
     (followed (commit_plan (root_after object (entry_rows e b)) (entry_rows e b)) finish_plan)
@@ -85,7 +84,7 @@ preserve_rule index e name m =
     Decision.go (entry_plan object e (Some kept.id) b m.blocks) tt m.phase m.rows)))))
 
 -- an entry that is empty already is left as it is
-abbrev pub delete_held : Object → ℕ → Model → Option Identifier → Decision (Unit {0})
+abbrev pub delete_held : RootOf → ℕ → Model → Option Identifier → Decision (Unit {0})
 delete_held object e m None = Decision.go [] tt m.phase m.rows
 delete_held object e m (Some id) =
     decide (free_for m.blocks object e) (λ b.

@@ -8,4 +8,5 @@ pub mod Reading
 pub mod Refusals
 pub mod Runs
 pub mod Staging
+pub mod Steady
 pub mod Transactions

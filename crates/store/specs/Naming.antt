@@ -4,16 +4,16 @@ use Rattle.std.specs.Prelude.{List, Some, None, Option, Result}
 use Rattle.std.specs.Option.{ok_or}
 use Rattle.device.specs.Blocks.{Block}
 use Rattle.lookup.specs.Finding.{found}
-use Rattle.lookup.specs.declared.objects.Object.{Object}
 use Rattle.map.specs.Identifiers.{identified}
 use Rattle.map.specs.declared.identifier.Identifier.{Identifier}
+use Rattle.object.specs.declared.root.Root.{Root as RootOf}
 use Rattle.store.specs.declared.name.Name.{Name}
 use Rattle.store.specs.declared.refusals.Refusal.{Refusal}
 use Rattle.store.specs.declared.refusals.Refusal.TheVariants as refusal
 
-abbrev pub found_if : List Block → Option Identifier → Option Object
+abbrev pub found_if : List Block → Option Identifier → Option RootOf
 found_if blocks None = None
 found_if blocks (Some id) = found blocks id
 
-abbrev pub named : List Block → Name → Result Object Refusal
+abbrev pub named : List Block → Name → Result RootOf Refusal
 named blocks name = ok_or (found_if blocks (identified name.tag name.root)) refusal.NoSuchObject

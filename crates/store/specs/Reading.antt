@@ -6,7 +6,7 @@
 use Rattle.std.specs.Prelude.{ℕ, ◌+◌, Bool, not, List, [], length, replicate, Some, None, Ok, Err, Option, Result, nat_le}
 use Rattle.device.specs.Blocks.{Block}
 use Rattle.lookup.specs.Reading.{words_shown, unreadable_in}
-use Rattle.lookup.specs.declared.objects.Object.{Object}
+use Rattle.object.specs.declared.root.Root.{Root as RootOf}
 use Rattle.store.specs.Admission.{admitted}
 use Rattle.store.specs.Decisions.{Decision, decide, unless}
 use Rattle.store.specs.Model.{Model}
@@ -34,7 +34,7 @@ read_rule name offset n m =
     Decision.go [] tt m.phase m.rows)))))
 
 -- the words of the object that a name names
-abbrev pub words_of_found : List Block → ℕ → ℕ → Result Object Refusal → List ℕ
+abbrev pub words_of_found : List Block → ℕ → ℕ → Result RootOf Refusal → List ℕ
 words_of_found blocks offset n (Ok object) = words_shown blocks object.blocks offset n
 words_of_found blocks offset n (Err why) = []
 

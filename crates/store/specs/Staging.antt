@@ -18,11 +18,11 @@ use Rattle.journal.specs.Rows.{new_address, row_of}
 use Rattle.journal.specs.declared.row.Row.{Row}
 use Rattle.journal.specs.declared.row.Row.TheVariants.{Untouched, New, Cleared}
 use Rattle.lookup.specs.Finding.{held}
-use Rattle.lookup.specs.declared.objects.Object.{Object}
 use Rattle.map.specs.Addresses.{cylinder_of}
 use Rattle.map.specs.declared.kind.Kind.{Kind}
 use Rattle.map.specs.declared.kind.Kind.TheVariants as kinds
 use Rattle.object.specs.Words.{bytes_of, replaced}
+use Rattle.object.specs.declared.root.Root.{Root as RootOf}
 use Rattle.store.specs.Admission.{admitted}
 use Rattle.store.specs.Decisions.{Decision, Goes, bound, decide, unless}
 use Rattle.store.specs.Model.{Model, seen}
@@ -60,7 +60,7 @@ own_target kinds.Special Untouched old = None
 own_target kinds.Index Untouched old = None
 
 -- a free block, looked for from the cylinder of the block that is replaced, or of the root
-abbrev pub start_of : Object → ℕ → ℕ
+abbrev pub start_of : RootOf → ℕ → ℕ
 start_of object old = cylinder_of (cond (old == 0) object.id.root old)
 
 abbrev pub or_full : Option ℕ → Result Target Refusal
@@ -71,7 +71,7 @@ abbrev pub or_fresh : Option ℕ → Option ℕ → Result Target Refusal
 or_fresh (Some b) free = Ok (targets.Own b)
 or_fresh None free = or_full free
 
-abbrev pub target : List Block → List Row → Object → ℕ → Result Target Refusal
+abbrev pub target : List Block → List Row → RootOf → ℕ → Result Target Refusal
 target blocks rows object p =
     or_fresh (own_target object.kind (row_of rows p) (slice_index object.blocks p))
     (chosen (free_block rows) (start_of object (slice_index object.blocks p)) blocks)
@@ -87,7 +87,7 @@ rows_with rows p (targets.Own b) = rows
 rows_with rows p (targets.Fresh b) = slice_set rows p (New b)
 
 -- the target of a write, and the bytes that go there
-abbrev pub prepared : List Block → List Row → Object → ℕ → ℕ → List ℕ → Result (Target × List ℕ) Refusal
+abbrev pub prepared : List Block → List Row → RootOf → ℕ → ℕ → List ℕ → Result (Target × List ℕ) Refusal
 prepared blocks rows object p first words =
     bound (kept_words blocks (length words == 256) (kept_block (row_of rows p) (slice_index object.blocks p))) (λ kept.
     bound (target blocks rows object p) (λ t. Ok (t, bytes_of (replaced kept first words))))
@@ -100,7 +100,7 @@ stage_rule ticket p first words m =
     Decision.go (write (block_of found.0) found.1 ∷ []) tt m.phase (rows_with m.rows p found.0))))
 
 -- one store at a target, after which the row holds it
-abbrev pub Stages : {D : Type 0} → Ghosts D → ℕ → Target → List ℕ → Store D → Result (Unit {0}) Refusal → Store D → Type 0
+abbrev pub Stages : {D : Type 0} → (meaning : Ghosts D) → ℕ → Target → List ℕ → Store D meaning → Result (Unit {0}) Refusal → Store D meaning → Type 0
 Stages meaning p t bytes store r store' =
     Ready (meaning.blocks store.device) (meaning.lit store.device) (cylinders_of (meaning.blocks store.device)) →
     Goes (seen meaning store) (write (block_of t) bytes ∷ []) tt (seen meaning store).phase (rows_with (seen meaning store).rows p t) r (seen meaning store')

@@ -13,7 +13,6 @@ use Rattle.journal.specs.Rows.{cleared_row, new_addresses}
 use Rattle.journal.specs.declared.row.Row.{Row}
 use Rattle.journal.specs.declared.row.Row.TheVariants.{Untouched}
 use Rattle.lookup.specs.Finding.{held}
-use Rattle.lookup.specs.declared.objects.Object.{Object}
 use Rattle.map.specs.declared.identifier.Identifier.{Identifier}
 use Rattle.map.specs.declared.kind.Kind.{Kind}
 use Rattle.map.specs.declared.kind.Kind.TheVariants as kinds
@@ -58,11 +57,11 @@ clear_rule ticket position m =
     (Decision.go [] tt m.phase (slice_set m.rows position (cleared_row (has_block (held m.blocks ticket.id).blocks position)))))
 
 -- the root block of an object once its rows are carried out
-abbrev pub root_after : Object → List Row → RootOf
+abbrev pub root_after : RootOf → List Row → RootOf
 root_after object rows = record { id = object.id; kind = object.kind; blocks = new_addresses rows object.blocks }
 
 -- the stores of a commit of these rows
-abbrev pub rows_plan : Object → List Row → List Block → List Write
+abbrev pub rows_plan : RootOf → List Row → List Block → List Write
 rows_plan object rows = commit_plan (root_after object rows) rows
 
 abbrev pub commit_writes : Identifier → Model → List Write

@@ -1,20 +1,9 @@
 // Which calls a phase takes.
 ghost use Rattle.std.specs.Prelude.{◌≡◌};
-ghost use Rattle.store.specs.Admission.{on_it, admitted};
+ghost use Rattle.store.specs.Admission.{admitted};
 
 use crate::phase::{Asked, Phase};
 use crate::refusals::Refusal;
-use map::Identifier;
-
-fn is_on(x: Identifier, y: Identifier) -> Result<(), Refusal>
-    ensures { result ≡ on_it x y }
-{
-    if x == y {
-        Ok(())
-    } else {
-        Err(Refusal::NoSuchTransaction)
-    }
-}
 
 impl Phase {
     // Whether a call that asks this is taken.
@@ -26,8 +15,9 @@ impl Phase {
             (_, Asked::Up) => Ok(()),
             (Phase::Idle, Asked::Idle) => Ok(()),
             (_, Asked::Idle) => Err(Refusal::Busy),
-            (Phase::Open(x), Asked::Open(y)) => is_on(x, y),
-            (Phase::Waiting(x), Asked::Waiting(y)) => is_on(x, y),
+            (Phase::Open(x), Asked::Open(y)) | (Phase::Waiting(x), Asked::Waiting(y)) if x == y => {
+                Ok(())
+            }
             _ => Err(Refusal::NoSuchTransaction),
         }
     }

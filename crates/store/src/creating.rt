@@ -16,11 +16,11 @@ use crate::indexing::EntryChange;
 use crate::name::Name;
 use crate::phase::Asked;
 use crate::refusals::Refusal;
-use crate::stores::Store;
+use crate::stores::{Store, or_down};
 use allocation::{FreeRoot, choose};
 use device::{Device, PowerCut};
 use journal::create;
-use lookup::{Object, no_blocks};
+use lookup::no_blocks;
 use map::{Identifier, Kind};
 use object::Root;
 
@@ -53,12 +53,12 @@ fn store_created<D: Device>(
 
 impl<D: Device> Store<D> {
     // The identifier of a new object: the tag, and a free root place.
-    fn new_identifier(&mut self, object: &Object, tag: u32) -> Result<Identifier, Refusal>
+    fn new_identifier(&mut self, object: &Root, tag: u32) -> Result<Identifier, Refusal>
         ensures { Looks D.Device (λ all. ok_or (new_identifier tag (chosen free_root (cylinder_of object.now.id.root) all)) refusals.Full) self.old result self.new }
     {
         let start = object.id.root() / 32;
         let chosen = choose(&self.device, &FreeRoot, start);
-        self.or_down(chosen)?
+        or_down(&mut self.phase, chosen)?
             .and_then(|r| Identifier::new(tag, u32::from(r)))
             .ok_or(Refusal::Full)
     }
@@ -68,7 +68,7 @@ impl<D: Device> Store<D> {
         ensures { StoresAll D.Device (followed (create_plan root.now) (change_plan change.now)) root.now.id self.old result self.new }
     {
         let stored = store_created(&mut self.device, root, change);
-        self.or_down(stored)?;
+        or_down(&mut self.phase, stored)?;
         Ok(root.id)
     }
 
@@ -85,10 +85,8 @@ impl<D: Device> Store<D> {
     {
         self.phase.admit(Asked::Idle)?;
         let index = self.index(index)?;
-        let entry = EntryNumber::new(e)?;
-        let Some(kind) = kind_named(kind) else {
-            return Err(Refusal::Range);
-        };
+        let entry = EntryNumber::try_from(e)?;
+        let kind = kind_named(kind).ok_or(Refusal::Range)?;
         if tag == 0 {
             return Err(Refusal::TagZero);
         }

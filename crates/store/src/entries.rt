@@ -23,11 +23,12 @@ impl Model for EntryNumber {
     ghost inverse = { λ n. record { number = n } };
 }
 
-impl EntryNumber {
-    // The number as one of an entry, if it is one.
-    pub(crate) fn new(number: u64) -> Result<EntryNumber, Refusal>
-        ensures { MatchResult result (λ e. (e ≡ number) × (number < 4096)) (λ why. (why ≡ refusals.Range) × (4096 ≤ number)) }
-    {
+impl TryFrom<u64> for EntryNumber {
+    type Error = Refusal;
+
+    ghost try_from_gives = { λ n r. MatchResult r (λ e. (e ≡ n) × (n < 4096)) (λ why. (why ≡ refusals.Range) × (4096 ≤ n)) };
+
+    fn try_from(number: u64) -> Result<EntryNumber, Refusal> {
         if number < 4096 {
             let number = number as u16;
             Ok(EntryNumber { number })
@@ -35,7 +36,9 @@ impl EntryNumber {
             Err(Refusal::Range)
         }
     }
+}
 
+impl EntryNumber {
     pub(crate) fn number(self) -> u16
         ensures { result ≡ self }
     {

@@ -2,8 +2,10 @@
 ghost use Rattle.std.specs.Prelude.{◌≡◌};
 ghost use Rattle.store.specs.Formatting.{sized, Formats};
 
+use crate::attachment::no_rows;
+use crate::phase::Phase;
 use crate::refusals::Refusal;
-use crate::stores::Store;
+use crate::stores::{Store, or_down};
 use device::Device;
 use map::Identifier;
 
@@ -17,6 +19,7 @@ fn is_sized(n: usize) -> bool
 impl<D: Device> Store<D> {
     /// Makes an empty volume of the device, which is lit first. The answer is the identifier of the
     /// root index.
+    #[tactic(auto, using(crate::proofs::Steadiness::carried_ready))]
     pub fn format(&mut self, tag: u32) -> Result<Identifier, Refusal>
         ensures { Formats D.Device tag self.old result self.new }
     {
@@ -27,8 +30,9 @@ impl<D: Device> Store<D> {
             return Err(Refusal::Size);
         }
         let formatted = formatting::format(&mut self.device, index);
-        self.or_down(formatted)?;
-        self.close();
+        or_down(&mut self.phase, formatted)?;
+        self.phase = Phase::Idle;
+        self.table = no_rows();
         Ok(index)
     }
 }

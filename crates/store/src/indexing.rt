@@ -3,7 +3,7 @@ ghost use Rattle.std.specs.Prelude.{◌≡◌, ◌≤◌, IfOk, Ok};
 ghost use Rattle.store.specs.Transactions.{rows_plan};
 ghost use Rattle.journal.specs.Carried.{CarriesAll, CompletesAll};
 ghost use Rattle.store.specs.Decisions.{Obeys, StoresAll};
-ghost use Rattle.store.specs.Indexing.{index_only, indexed, entry_held, free_for, entry_rows, entry_block_plan, change_plan, retrieve_rule, preserve_rule, delete_rule};
+ghost use Rattle.store.specs.Indexing.{indexed, entry_held, free_for, entry_rows, entry_block_plan, change_plan, retrieve_rule, preserve_rule, delete_rule};
 ghost use Rattle.store.specs.Model.{Looks};
 
 use crate::attachment::no_rows;
@@ -12,20 +12,20 @@ use crate::name::Name;
 use crate::phase::Asked;
 use crate::refusals::Refusal;
 use crate::staging::start_of;
-use crate::stores::{Store, Table};
+use crate::stores::{Store, Table, or_down};
 use crate::transactions::commit_rows;
 use allocation::{FreeBlock, choose};
 use device::{Device, PowerCut, put};
 use journal::finish;
-use lookup::{Object, entered_block, position_bytes};
+use lookup::{entered_block, position_bytes};
 use map::{Identifier, Kind};
-use object::index_entry;
+use object::{Root, index_entry};
 
 // What a transaction does that sets an entry: the entry holds the identifier from then on, or none,
 // and its position has the new block.
 #[derive(Clone, Copy)]
 pub(crate) struct EntryChange {
-    pub index: Object,
+    pub index: Root,
     pub entry: EntryNumber,
     pub id: Option<Identifier>,
     pub block: u16,
@@ -73,7 +73,7 @@ impl EntryChange {
 
 impl<D: Device> Store<D> {
     // The index that a name names.
-    pub(crate) fn index(&mut self, name: Name) -> Result<Object, Refusal>
+    pub(crate) fn index(&mut self, name: Name) -> Result<Root, Refusal>
         ensures { Looks D.Device (λ all. indexed all name) self.old result self.new }
     {
         let object = self.object(name)?;
@@ -85,11 +85,11 @@ impl<D: Device> Store<D> {
     }
 
     // The identifier that an entry holds.
-    fn entry(&mut self, object: &Object, e: EntryNumber) -> Result<Option<Identifier>, Refusal>
+    fn entry(&mut self, object: &Root, e: EntryNumber) -> Result<Option<Identifier>, Refusal>
         ensures { Looks D.Device (λ all. Ok (entry_held all object.now e)) self.old result self.new }
     {
         let bytes = position_bytes(&self.device, object.blocks[e.position()]);
-        Ok(index_entry(&self.or_down(bytes)?, e.number()))
+        Ok(index_entry(&or_down(&mut self.phase, bytes)?, e.number()))
     }
 
     /// The identifier that entry `e` of an index holds, or none.
@@ -98,12 +98,12 @@ impl<D: Device> Store<D> {
     {
         self.phase.admit(Asked::Up)?;
         let object = self.index(index)?;
-        let e = EntryNumber::new(e)?;
+        let e = EntryNumber::try_from(e)?;
         self.entry(&object, e)
     }
 
     // A free block for an entry's position.
-    pub(crate) fn free_for(&mut self, object: &Object, e: EntryNumber) -> Result<u16, Refusal>
+    pub(crate) fn free_for(&mut self, object: &Root, e: EntryNumber) -> Result<u16, Refusal>
         ensures { Looks D.Device (λ all. free_for all object.now e) self.old result self.new }
     {
         let wanted = FreeBlock {
@@ -114,7 +114,7 @@ impl<D: Device> Store<D> {
             &wanted,
             start_of(object, object.blocks[e.position()]),
         );
-        self.or_down(chosen)?.ok_or(Refusal::Full)
+        or_down(&mut self.phase, chosen)?.ok_or(Refusal::Full)
     }
 
     // The transaction that sets an entry. Where power fails, the store is down.
@@ -122,7 +122,7 @@ impl<D: Device> Store<D> {
         ensures { StoresAll D.Device (change_plan change.now) tt self.old result self.new }
     {
         let stored = change.store(&mut self.device);
-        self.or_down(stored)
+        or_down(&mut self.phase, stored)
     }
 
     /// Sets entry `e` of an index to the identifier of an object.
@@ -131,7 +131,7 @@ impl<D: Device> Store<D> {
     {
         self.phase.admit(Asked::Idle)?;
         let index = self.index(index)?;
-        let entry = EntryNumber::new(e)?;
+        let entry = EntryNumber::try_from(e)?;
         let kept = self.object(name)?;
         let block = self.free_for(&index, entry)?;
         self.set_entry(&EntryChange {
@@ -148,7 +148,7 @@ impl<D: Device> Store<D> {
     {
         self.phase.admit(Asked::Idle)?;
         let index = self.index(index)?;
-        let entry = EntryNumber::new(e)?;
+        let entry = EntryNumber::try_from(e)?;
         let held = self.entry(&index, entry)?;
         if held.is_none() {
             return Ok(());

@@ -1,7 +1,7 @@
 // Playing a script of calls.
 ghost use Rattle.std.specs.Prelude.{◌≡◌, IfOk, OnOk, MatchResult};
 ghost use Rattle.std.specs.Result.{ForOk};
-ghost use Rattle.store.specs.Model.{seen, Steady};
+ghost use Rattle.store.specs.Model.{seen};
 ghost use Rattle.store.specs.Runs.{answered, Shows, capped, Step, Played};
 ghost use Rattle.store.specs.declared.calls.Answer.TheVariants as answers;
 
@@ -37,11 +37,12 @@ impl<D: Device> Store<D> {
         length: u64,
         heap: Global,
     ) -> Result<Answer, AllocError>
-        ensures { IfOk result (λ a. Steady (seen D.Device self.old) → Shows object offset (capped length) (seen D.Device self.old) a (seen D.Device self.new)) }
+        ensures { IfOk result (λ a. Shows object offset (capped length) (seen D.Device self.old) a (seen D.Device self.new)) }
     {
         let n = length.min(16385) as usize;
         let mut words = vec![in heap; 0u16; n]?;
-        // By match: the check then proves the refused case alone.
+        // By match: tried with `answer` and a closure that moves the words, the check proves neither
+        // case, and by match it proves the refused one alone.
         match self.read(object, offset, words.as_mut_slice()) {
             Ok(()) => Ok(Answer::Shown(words)),
             Err(why) => Ok(Answer::Refused(why)),
@@ -50,7 +51,7 @@ impl<D: Device> Store<D> {
 
     // One call.
     fn step(&mut self, call: &Call, heap: Global) -> Result<Answer, AllocError>
-        ensures { IfOk result (λ a. Steady (seen D.Device self.old) → Step call.now (seen D.Device self.old) a (seen D.Device self.new)) }
+        ensures { IfOk result (λ a. Step call.now (seen D.Device self.old) a (seen D.Device self.new)) }
     {
         Ok(match call {
             Call::Format { tag } => answer(self.format(*tag), Answer::Named),
@@ -96,7 +97,7 @@ impl<D: Device> Store<D> {
         log: &mut Vec<Answer>,
         heap: Global,
     ) -> Result<(), AllocError>
-        ensures { OnOk result (Steady (seen D.Device self.old) → Played (seen D.Device self.old) calls.now log.old.items log.new.items (seen D.Device self.new)) }
+        ensures { OnOk result (Played (seen D.Device self.old) calls.now log.old.items log.new.items (seen D.Device self.new)) }
     {
         for call in calls {
             let answer = self.step(call, heap)?;

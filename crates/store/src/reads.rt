@@ -1,14 +1,13 @@
 // Reading the words of a file.
-ghost use Rattle.std.specs.Prelude.{◌≡◌, ◌+◌, ◌≤◌, length};
-ghost use Rattle.lookup.specs.Reading.{unreadable_in, words_read};
+ghost use Rattle.std.specs.Prelude.{◌≡◌, length};
 ghost use Rattle.store.specs.Decisions.{Obeys};
-ghost use Rattle.store.specs.Model.{seen, Steady, Looks};
-ghost use Rattle.store.specs.Reading.{in_object, all_shown, read_rule, buffer_after};
+ghost use Rattle.store.specs.Model.{seen};
+ghost use Rattle.store.specs.Reading.{in_object, read_rule, buffer_after};
 
 use crate::name::Name;
 use crate::phase::Asked;
 use crate::refusals::Refusal;
-use crate::stores::Store;
+use crate::stores::{Store, or_down};
 use device::Device;
 use lookup::read_words;
 use map::Kind;
@@ -25,7 +24,7 @@ impl<D: Device> Store<D> {
     /// the buffer is all zero. What an open transaction has staged does not show.
     pub fn read(&mut self, name: Name, offset: u64, buffer: &mut [u16]) -> Result<(), Refusal>
         ensures rule { Obeys D.Device (read_rule name offset (length buffer.old)) self.old result self.new }
-        ensures buffer { Steady (seen D.Device self.old) → buffer.new ≡ buffer_after name offset (seen D.Device self.old) buffer.old result }
+        ensures buffer { buffer.new ≡ buffer_after name offset (seen D.Device self.old) buffer.old result }
     {
         self.phase.admit(Asked::Up)?;
         let object = self.object(name)?;
@@ -36,7 +35,7 @@ impl<D: Device> Store<D> {
             return Err(Refusal::Range);
         }
         let read = read_words(&self.device, &object.blocks, offset as usize, buffer);
-        match self.or_down(read)? {
+        match or_down(&mut self.phase, read)? {
             None => Ok(()),
             Some(a) => Err(Refusal::Unreadable(a)),
         }

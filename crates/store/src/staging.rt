@@ -8,13 +8,14 @@ ghost use Rattle.store.specs.Decisions.{Obeys};
 use crate::phase::Asked;
 use crate::refusals::Refusal;
 use crate::runs::Run;
-use crate::stores::Store;
+use crate::stores::{Store, or_down};
 use crate::tickets::OpenTicket;
 use allocation::{FreeBlock, choose};
 use device::{Device, put};
 use journal::Row;
-use lookup::{Object, position_words, staged_block};
+use lookup::{position_words, staged_block};
 use map::Kind;
+use object::Root;
 
 /// Where a staged write goes.
 #[derive(Clone, Copy, PartialEq, Eq, Debug)]
@@ -48,7 +49,7 @@ fn own_target(kind: Kind, row: Row, old: u16) -> Option<u16>
 }
 
 // The cylinder from which a free block is looked for.
-pub(crate) fn start_of(object: &Object, old: u16) -> u32
+pub(crate) fn start_of(object: &Root, old: u16) -> u32
     ensures { result ≡ start_of object.now old }
 {
     let replaced = if old == 0 {
@@ -76,7 +77,7 @@ fn staged_bytes(kept: &[u16; 256], run: Run) -> [u8; 512]
 
 impl<D: Device> Store<D> {
     // Where a run goes.
-    fn target(&mut self, object: &Object, run: Run) -> Result<Target, Refusal>
+    fn target(&mut self, object: &Root, run: Run) -> Result<Target, Refusal>
         ensures { Looks D.Device (λ all. target all self.old.table.rows object.now run.entry.position) self.old result self.new }
     {
         let old = object.blocks[run.position];
@@ -87,27 +88,28 @@ impl<D: Device> Store<D> {
             rows: self.table.rows,
         };
         let chosen = choose(&self.device, &wanted, start_of(object, old));
-        let free = self.or_down(chosen)?;
+        let free = or_down(&mut self.phase, chosen)?;
         free.map(Target::Fresh).ok_or(Refusal::Full)
     }
 
-    // The words that a write starts from: those of the block that it keeps, unless it is full.
-    fn kept_words(&mut self, full: bool, a: u16) -> Result<[u16; 256], Refusal>
-        ensures { Looks D.Device (λ all. kept_words all full a) self.old result self.new }
+    // The words that a write starts from: those of the position's block, unless it replaces all.
+    // A flag beside the block, as the rule tells it: a block that is not read is still named.
+    fn kept_words(&mut self, is_full: bool, block: u16) -> Result<[u16; 256], Refusal>
+        ensures { Looks D.Device (λ all. kept_words all is_full block) self.old result self.new }
     {
-        if full {
+        if is_full {
             return Ok(no_words());
         }
-        let words = position_words(&self.device, a);
-        self.or_down(words)?.ok_or(Refusal::Unreadable(a))
+        let words = position_words(&self.device, block);
+        or_down(&mut self.phase, words)?.ok_or(Refusal::Unreadable(block))
     }
 
     // The target of a run, and the bytes that go there.
-    fn prepare(&mut self, object: &Object, run: Run) -> Result<(Target, [u8; 512]), Refusal>
+    fn prepare(&mut self, object: &Root, run: Run) -> Result<(Target, [u8; 512]), Refusal>
         ensures { Looks D.Device (λ all. prepared all self.old.table.rows object.now run.entry.position run.entry.first run.entry.words.now) self.old result self.new }
     {
-        let kept = self.table.rows[run.position].address(object.blocks[run.position]);
-        let kept = self.kept_words(run.words.len() == 256, kept)?;
+        let block = self.table.rows[run.position].address(object.blocks[run.position]);
+        let kept = self.kept_words(run.words.len() == 256, block)?;
         let target = self.target(object, run)?;
         Ok((target, staged_bytes(&kept, run)))
     }
@@ -117,7 +119,7 @@ impl<D: Device> Store<D> {
         ensures { Stages D.Device run.entry.position target bytes.now self.old result self.new }
     {
         let stored = put(&mut self.device, usize::from(target.block()), bytes);
-        self.or_down(stored)?;
+        or_down(&mut self.phase, stored)?;
         if let Target::Fresh(block) = target {
             self.table.rows[run.position].renew(block);
         }

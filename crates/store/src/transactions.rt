@@ -1,19 +1,18 @@
 // Beginning and ending a transaction.
-ghost use Rattle.std.specs.Prelude.{◌≡◌, true, length};
+ghost use Rattle.std.specs.Prelude.{◌≡◌, length};
 ghost use Rattle.journal.specs.Carried.{CarriesAll};
 ghost use Rattle.map.specs.Identifiers.{identified};
 ghost use Rattle.store.specs.Decisions.{Obeys, StoresAll};
-ghost use Rattle.store.specs.Model.{seen};
 ghost use Rattle.store.specs.Transactions.{rows_plan, begin_rule, abandon_rule, clear_rule, commit_rule, settle_rule};
 
+use crate::attachment::no_rows;
 use crate::name::Name;
 use crate::phase::{Asked, Phase};
 use crate::refusals::Refusal;
-use crate::stores::Store;
+use crate::stores::{Store, or_down};
 use crate::tickets::{OpenTicket, WaitingTicket};
 use device::{Device, PowerCut};
 use journal::{Row, commit, finish, new_addresses};
-use lookup::Object;
 use map::{Identifier, Kind};
 use object::Root;
 
@@ -31,15 +30,14 @@ impl Name {
 // The commit of a transaction on an object: its rows are carried out.
 pub(crate) fn commit_rows<D: Device>(
     device: &mut D,
-    object: &Object,
+    object: &Root,
     rows: &[Row; 64],
 ) -> Result<u32, PowerCut>
     ensures { CarriesAll D.Device device.old (rows_plan object.now rows.now) result device.new }
 {
     let root = Root {
-        id: object.id,
-        kind: object.kind,
         blocks: new_addresses(rows, &object.blocks),
+        ..*object
     };
     commit(device, &root, rows)
 }
@@ -64,7 +62,8 @@ impl<D: Device> Store<D> {
     {
         let OpenTicket { id } = ticket;
         self.phase.admit(Asked::Open(id))?;
-        self.close();
+        self.phase = Phase::Idle;
+        self.table = no_rows();
         Ok(())
     }
 
@@ -83,11 +82,11 @@ impl<D: Device> Store<D> {
     }
 
     // The stores of a commit, counted. Where power fails, the store is down.
-    fn store_rows(&mut self, object: &Object) -> Result<u32, Refusal>
+    fn store_rows(&mut self, object: &Root) -> Result<u32, Refusal>
         ensures { StoresAll D.Device (rows_plan object.now self.old.table.rows) (length (rows_plan object.now self.old.table.rows (D.blocks self.old.device))) self.old result self.new }
     {
         let committed = commit_rows(&mut self.device, object, &self.table.rows);
-        self.or_down(committed)
+        or_down(&mut self.phase, committed)
     }
 
     /// Commits an open transaction: stores its intentions, the root block and the commit bit. The
@@ -105,14 +104,16 @@ impl<D: Device> Store<D> {
 
     /// Settles a committed transaction: stores the maps with its intentions carried out, and then the
     /// map without the commit bit. The answer is how many stores that took.
+    #[tactic(auto, using(crate::proofs::Steadiness::carried_ready))]
     pub fn settle(&mut self, ticket: WaitingTicket) -> Result<u32, Refusal>
         ensures { Obeys D.Device (settle_rule ticket) self.old result self.new }
     {
         let WaitingTicket { id } = ticket;
         self.phase.admit(Asked::Waiting(id))?;
         let finished = finish(&mut self.device);
-        let stores = self.or_down(finished)?;
-        self.close();
+        let stores = or_down(&mut self.phase, finished)?;
+        self.phase = Phase::Idle;
+        self.table = no_rows();
         Ok(stores)
     }
 }

@@ -2,7 +2,7 @@
 use Rattle.std.proofs.Common.{◌≡◌, ℕ, ◌*◌, ◌<◌, Bool, true, false, cond, eqb, List, get_or, set, Some, None, Option, sym, refl, ap, ◌∙◌, subst, ap₂, ⊎_elim, arith}
 use mathlib.Core.Path.{fun_ext}
 use Rattle.std.proofs.lemmas.List.{set-set}
-use Rattle.std.proofs.lemmas.Bool.{eq-eqb, ne_eqb, eqb-true, eqb-false, cases_eq}
+use Rattle.std.proofs.lemmas.Bool.{eq-eqb, ne_eqb, eqb-true, eqb-false, cases_eq, true≢false}
 use Rattle.device.specs.Blocks.{Block, block_at, left_by}
 use Rattle.device.specs.declared.answers.Manner.{Manner}
 use Rattle.device.specs.declared.answers.Manner.TheVariants as manner
@@ -123,7 +123,7 @@ becomes_readable : (blocks : List Block) (r tag : ℕ) (kind : Kind) → r < 32 
 becomes_readable blocks r tag kind within complete is index p b (Becomes.untouched no_new no_old) found new = complete.indexes r p b (held kind tag) within (ap remains_as is) index found
 becomes_readable blocks r tag kind within complete is index p b (Becomes.renewed d h state no_held only) found new =
     let same : d ≡ b = cc in ap (λ s. is_unreadable (block_at blocks s)) (sym same) ∙ new d h state
-becomes_readable blocks r tag kind within complete is index p b (Becomes.emptied no_held no_new) found new = absurd (let z : ◌≡◌ {A = ℕ} 0 1 = cc in omega arith)
+becomes_readable blocks r tag kind within complete is index p b (Becomes.emptied no_held no_new) found new = absurd (true≢false cc)
 
 pub bit_store_law : BitStoreLaw
 bit_store_law blocks r tag kind bytes o within complete is becomes readable written =
@@ -156,7 +156,7 @@ removal_store_law blocks r tag kind bytes within other complete is written =
       remains = law.object;
       position = law.position;
       single = λ p. none_claims (with_bit r (entry_at blocks)) (32 * cylinders_of blocks) r p (law.position p);
-      readable = λ p b object same index found. absurd (let z : ◌≡◌ {A = ℕ} 0 1 = cc in omega arith);
+      readable = λ p b object same index found. absurd (true≢false cc);
       index = λ e. absurd (other e);
     })
 
@@ -171,8 +171,8 @@ create_store_law blocks r tag kind bytes within complete free unnamed written =
       remains = law.object;
       position = law.position;
       single = λ p. none_claims (with_object r kind tag (entry_at blocks)) (32 * cylinders_of blocks) r p (law.position p);
-      readable = λ p b object same index found. absurd (let z : ◌≡◌ {A = ℕ} 0 1 = cc in omega arith);
-      index = λ e. let none : None ≡ Some complete.root_index.0 = sym (ap remains_as free) ∙ ap (λ s. remains_as (entry_at blocks s)) e ∙ complete.root_index.1 in absurd (let z : ◌≡◌ {A = ℕ} 0 1 = cc in omega arith);
+      readable = λ p b object same index found. absurd (true≢false cc);
+      index = λ e. let none : None ≡ Some complete.root_index.0 = sym (ap remains_as free) ∙ ap (λ s. remains_as (entry_at blocks s)) e ∙ complete.root_index.1 in absurd (true≢false cc);
     })
 
 pub complete_kept : CompleteKept

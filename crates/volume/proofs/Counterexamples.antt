@@ -1,5 +1,6 @@
 -- The counterexamples to the lost-map law without its premises, computed.
 use Rattle.std.proofs.Common.{◌≡◌, ℕ, false, Some, None, Option, sym, refl, ◌∙◌, arith, lit<}
+use Rattle.std.proofs.lemmas.Bool.{true≢false}
 use Rattle.map.specs.declared.entry.Entry.TheVariants.{Free}
 use Rattle.volume.specs.Counterexamples.{claimed_twice, past_the_last, first_claims, no_claims, PremisesNeeded}
 use Rattle.volume.specs.Counting.{counted_at, counted_addresses}
@@ -54,7 +55,7 @@ unfolding lowest any
 early_after = refl
 
 lost : (b : ℕ) → None ≡ Some b → ⊥
-lost b e = let z : ◌≡◌ {A = ℕ} 0 1 = cc in omega arith
+lost b e = true≢false cc
 
 mixed : ◌≡◌ {A = Option ℕ} (Some 37) (Some 6) → ⊥
 mixed e = let z : ◌≡◌ {A = ℕ} 37 6 = cc in omega arith

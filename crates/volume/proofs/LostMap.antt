@@ -218,9 +218,9 @@ module _ (E : Entries) (R : RootBlocks) (cylinders c : ℕ) (inside : c < cylind
                 state_counts s (bit (rebuilt E R (32 * cylinders) c owner.root)) ≡ state_counts s (bit (E owner.root))
             stated data_state.Allocated at' own = refl
             stated data_state.IntendingToAllocate at' own =
-                bit_same p data_state.IntendingToAllocate owner object at' is own (λ e. let z : ◌≡◌ {A = ℕ} 0 1 = cc in omega arith)
+                bit_same p data_state.IntendingToAllocate owner object at' is own (λ e. true≢false cc)
             stated data_state.IntendingToDeallocate at' own =
-                ap not (bit_same p data_state.IntendingToDeallocate owner object at' is own (λ e. let z : ◌≡◌ {A = ℕ} 0 1 = cc in omega arith))
+                ap not (bit_same p data_state.IntendingToDeallocate owner object at' is own (λ e. true≢false cc))
 
             tagged : (t : Bool) → eqb object.tag owner.tag ≡ t →
                 (t && state_counts state (bit (rebuilt E R (32 * cylinders) c owner.root))) ≡ (t && state_counts state (bit (E owner.root)))

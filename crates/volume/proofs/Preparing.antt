@@ -3,7 +3,7 @@ use Rattle.std.proofs.Common.{◌≡◌, ℕ, ◌*◌, ◌<◌, Bool, true, fals
 use mathlib.Core.Path.{fun_ext}
 use Rattle.std.proofs.lemmas.Nat.{mod_below}
 use Rattle.std.proofs.lemmas.List.{length-set, get_or-set_same, get_or-set_other}
-use Rattle.std.proofs.lemmas.Bool.{and_parts, eq-eqb, ne_eqb, eqb-true, cases_eq}
+use Rattle.std.proofs.lemmas.Bool.{and_parts, eq-eqb, ne_eqb, eqb-true, cases_eq, true≢false}
 use Rattle.device.specs.Blocks.{Block, block_at}
 use Rattle.device.specs.Gathers.{gathered_each}
 use Rattle.map.specs.Addresses.{cylinder_of, sector_of, root_place}
@@ -55,16 +55,16 @@ written_map_law blocks r bytes entries f is decodes =
 
 -- an entry of the object for a position is a data entry for it
 entry_of : (r tag p : ℕ) (e : Entry) (state : DataState) → state_for r tag p e ≡ Some state → (s : DataState) × ((owner : Identifier) × (e ≡ Data s p owner))
-entry_of r tag p Map state is = absurd (let z : ◌≡◌ {A = ℕ} 0 1 = cc in omega arith)
-entry_of r tag p Free state is = absurd (let z : ◌≡◌ {A = ℕ} 0 1 = cc in omega arith)
-entry_of r tag p (Root s kind commit of) state is = absurd (let z : ◌≡◌ {A = ℕ} 0 1 = cc in omega arith)
+entry_of r tag p Map state is = absurd (true≢false cc)
+entry_of r tag p Free state is = absurd (true≢false cc)
+entry_of r tag p (Root s kind commit of) state is = absurd (true≢false cc)
 entry_of r tag p (Data s position owner) state is = by (eqb owner.root r && eqb position p && eqb tag owner.tag) refl is
   where
     by : (t : Bool) → (eqb owner.root r && eqb position p && eqb tag owner.tag) ≡ t → cond t (Some s) None ≡ Some state → (u : DataState) × ((o : Identifier) × (Data s position owner ≡ Data u p o))
     by true test found =
         let place = (and_parts (eqb owner.root r) (eqb position p) (and_parts (eqb owner.root r && eqb position p) (eqb tag owner.tag) test).0).1 in
         (s, (owner, ap (λ k. Data s k owner) (eqb-true position p place)))
-    by false test found = absurd (let z : ◌≡◌ {A = ℕ} 0 1 = cc in omega arith)
+    by false test found = absurd (true≢false cc)
 
 pub no_position_law : NoPositionLaw
 no_position_law blocks usable r tag p past = Becomes.emptied (never data_state.Allocated) (never data_state.IntendingToAllocate)

@@ -1,6 +1,7 @@
 -- What is read from the blocks of a volume: entries that fit, and what a store leaves of them.
 use Rattle.std.proofs.Common.{◌≡◌, ℕ, ◌+◌, ◌*◌, ◌<◌, true, false, List, get_or, Some, None, sym, refl, ap, ◌∙◌, subst, ap₂, arith}
 use Rattle.std.proofs.lemmas.Nat.{mod_below}
+use Rattle.std.proofs.lemmas.Bool.{true≢false}
 use Rattle.device.specs.Blocks.{Block, block_at}
 use Rattle.device.specs.Gathers.{gathered_each}
 use Rattle.map.specs.Addresses.{cylinder_of, sector_of}
@@ -34,7 +35,7 @@ entry_fits blocks a entries is = by (block_at blocks (32 * cylinder_of a)) is
     at = ap (λ o. entry_in o (sector_of a)) is
 
     by : (b : Block) → map_in (cylinders_of blocks) (cylinder_of a) b ≡ Some entries → (fits_entry (cylinders_of blocks) a (entry_at blocks a) ≡ true) × Named (entry_at blocks a)
-    by Block.unreadable f = absurd (let z : ◌≡◌ {A = ℕ} 0 1 = cc in omega arith)
+    by Block.unreadable f = absurd (true≢false cc)
     by (Block.readable bytes) f =
         let fits = map_fits (cylinders_of blocks) (cylinder_of a) bytes entries f (sector_of a) (mod_below a 32 (omega arith)) in
         (ap₂ (fits_entry (cylinders_of blocks)) (sym joined) at ∙ fits.0, subst Named (sym at) fits.1)
@@ -45,7 +46,7 @@ module _ (blocks : List Block) (usable : Usable blocks) where
   usable_readable c h = by (block_at blocks (32 * c)) (usable c h).0 (usable c h).1
     where
       by : (b : Block) (entries : List Entry) → map_in (cylinders_of blocks) c b ≡ Some entries → is_unreadable b ≡ false
-      by Block.unreadable entries is = absurd (let z : ◌≡◌ {A = ℕ} 0 1 = cc in omega arith)
+      by Block.unreadable entries is = absurd (true≢false cc)
       by (Block.readable bytes) entries is = refl
 
   pub usable_none_lost : lost_map blocks ≡ None

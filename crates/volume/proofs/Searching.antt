@@ -1,6 +1,6 @@
 -- What a search finds.
 use Rattle.std.proofs.Common.{◌≡◌, ℕ, zero, suc, ◌<◌, Bool, true, false, cond, ◌||◌, MatchOption, Some, None, Option, sym, refl, ap, ◌∙◌, ap₂, ⊎_elim, arith}
-use Rattle.std.proofs.lemmas.Bool.{cases_eq, cases_Bool, or_left, or_right, or_from}
+use Rattle.std.proofs.lemmas.Bool.{cases_eq, cases_Bool, or_left, or_right, or_from, true≢false}
 use Rattle.volume.specs.Search.{lowest, any, or_else}
 
 -- equal tests below the bound give equal finds
@@ -28,7 +28,7 @@ lowest_first f (suc n) b h t e =
 -- what is found passes, below the bound
 pub lowest_finds : (f : ℕ → Bool) (n b : ℕ) → lowest f n ≡ Some b → (f b ≡ true) × (b < n)
 unfolding lowest
-lowest_finds f zero b is = absurd (let z : ◌≡◌ {A = ℕ} 0 1 = cc in omega arith)
+lowest_finds f zero b is = absurd (true≢false cc)
 lowest_finds f (suc n) b is = go (lowest f n) refl (f n) refl is (lowest_finds f n)
   where
     go : (o : Option ℕ) → lowest f n ≡ o → (t : Bool) → f n ≡ t → or_else o (cond t (Some n) None) ≡ Some b →
@@ -38,7 +38,7 @@ lowest_finds f (suc n) b is = go (lowest f n) refl (f n) refl is (lowest_finds f
         let has = below d found in
         (ap f (sym same) ∙ has.0, omega (arith, has.1))
     go None found true test e below = let same : n ≡ b = cc in (ap f (sym same) ∙ test, omega arith)
-    go None found false test e below = absurd (let z : ◌≡◌ {A = ℕ} 0 1 = cc in omega arith)
+    go None found false test e below = absurd (true≢false cc)
 
 -- where none is found, none passes
 pub lowest_misses : (f : ℕ → Bool) (n a : ℕ) → lowest f n ≡ None → a < n → f a ≡ true → ⊥
@@ -47,11 +47,11 @@ lowest_misses f zero a is h t = omega arith
 lowest_misses f (suc n) a is h t = go (lowest f n) refl (f n) refl is (lowest_misses f n)
   where
     go : (o : Option ℕ) → lowest f n ≡ o → (u : Bool) → f n ≡ u → or_else o (cond u (Some n) None) ≡ None → ((d : ℕ) → lowest f n ≡ None → d < n → f d ≡ true → ⊥) → ⊥
-    go (Some d) found u test e below = let z : ◌≡◌ {A = ℕ} 0 1 = cc in omega arith
-    go None found true test e below = let z : ◌≡◌ {A = ℕ} 0 1 = cc in omega arith
+    go (Some d) found u test e below = true≢false cc
+    go None found true test e below = true≢false cc
     go None found false test e below =
         ⊎_elim
-        (λ (same : a ≡ n). let no : true ≡ false = sym t ∙ ap f same ∙ test in let z : ◌≡◌ {A = ℕ} 0 1 = cc in omega arith)
+        (λ (same : a ≡ n). let no : true ≡ false = sym t ∙ ap f same ∙ test in true≢false cc)
         (λ ne. below a found (omega arith) t)
         (cases_eq a n)
 

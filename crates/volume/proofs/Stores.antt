@@ -2,7 +2,7 @@
 use Rattle.std.proofs.Common.{◌≡◌, ℕ, ◌*◌, ◌/◌, ◌%◌, ◌<◌, ◌≤◌, Bool, true, false, cond, leb, ◌≢◌, List, length, set, Some, None, Option, sym, refl, ap, ◌∙◌, subst, ap₂, ⊎_elim, arith}
 use mathlib.Core.Path.{fun_ext}
 use Rattle.std.proofs.lemmas.List.{length-set, get_or-set_same, get_or-set_other}
-use Rattle.std.proofs.lemmas.Bool.{and_parts, leb-true, eq-eqb, ne_eqb, cases_eq}
+use Rattle.std.proofs.lemmas.Bool.{and_parts, leb-true, eq-eqb, ne_eqb, cases_eq, true≢false}
 use Rattle.device.specs.Blocks.{Block, block_at}
 use Rattle.map.specs.Addresses.{cylinder_of, sector_of, root_place}
 use Rattle.map.specs.Entries.{fits_entry, Named}
@@ -101,7 +101,7 @@ claim_place blocks r p b claim =
     by : (state : DataState) (owner : Identifier) → entry_at blocks b ≡ Data state p owner → (o : Option (List Entry)) → map_at blocks (cylinder_of b) ≡ o → 5 ≤ sector_of b
     by state owner at None is =
         let free : entry_at blocks b ≡ Free = ap (λ o. entry_in o (sector_of b)) is in
-        absurd (let z : ◌≡◌ {A = ℕ} 0 1 = cc in omega arith)
+        absurd (true≢false cc)
     by state owner at (Some entries) is =
         let fits = entry_fits blocks b entries is in
         (data_fits (cylinders_of blocks) b p state owner (ap (fits_entry (cylinders_of blocks) b) (sym at) ∙ fits.0) (subst Named at fits.1)).place

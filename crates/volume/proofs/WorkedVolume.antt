@@ -1,6 +1,6 @@
 -- The premises of the laws about entries, entry by entry.
 use Rattle.std.proofs.Common.{◌≡◌, ℕ, ◌%◌, Bool, true, false, cond, ◌&&◌, eqb, Some, None, sym, refl, ap, ◌∙◌, arith, lit<}
-use Rattle.std.proofs.lemmas.Bool.{eqb-true, ne_eqb}
+use Rattle.std.proofs.lemmas.Bool.{eqb-true, ne_eqb, true≢false}
 use Rattle.map.specs.declared.entry.DataState.{DataState}
 use Rattle.map.specs.declared.entry.DataState.TheVariants as data_state
 use Rattle.map.specs.declared.entry.Entry.{Entry}
@@ -35,7 +35,7 @@ each : (P : Entry → Type 0) (commit : Bool) (six seven : Entry) (a : ℕ) → 
 each P commit six seven a = each_pair (λ e e'. P e) commit six six seven seven a
 
 no_state : (state : DataState) → None ≡ Some state → ⊥
-no_state state e = let z : ◌≡◌ {A = ℕ} 0 1 = cc in omega arith
+no_state state e = true≢false cc
 
 -- the save has no entry for another position than 0
 elsewhere : (p : ℕ) → (p ≡ 0 → ⊥) → (a : ℕ) → state_for 2 5 p (saving false a) ≡ None
@@ -54,15 +54,15 @@ renewed = Becomes.renewed 37 (lit< tt) refl
     (λ a h.
     each (λ e. state_for 2 5 0 e ≡ Some data_state.Allocated → ⊥) false (Data data_state.IntendingToDeallocate 0 file) (Data data_state.IntendingToAllocate 0 file) a
     (no_state data_state.Allocated) (no_state data_state.Allocated) (no_state data_state.Allocated)
-    (λ e. let z : ◌≡◌ {A = ℕ} 0 1 = cc in omega arith)
-    (λ at e. let z : ◌≡◌ {A = ℕ} 0 1 = cc in omega arith)
+    (λ e. true≢false cc)
+    (λ at e. true≢false cc)
     (no_state data_state.Allocated))
     (λ a h.
     each (λ e. state_for 2 5 0 e ≡ Some data_state.IntendingToAllocate → a ≡ 37) false (Data data_state.IntendingToDeallocate 0 file) (Data data_state.IntendingToAllocate 0 file) a
     (λ e. absurd (no_state data_state.IntendingToAllocate e))
     (λ e. absurd (no_state data_state.IntendingToAllocate e))
     (λ e. absurd (no_state data_state.IntendingToAllocate e))
-    (λ e. absurd (let z : ◌≡◌ {A = ℕ} 0 1 = cc in omega arith))
+    (λ e. absurd (true≢false cc))
     (λ at e. at)
     (λ e. absurd (no_state data_state.IntendingToAllocate e)))
 

@@ -10,7 +10,7 @@ mod worked;
 
 pub use choose::{is_stray, map_needs_settling, other_maps_would_not_change};
 pub use claims::{claim_entry, claim_map, claims_are_the_lowest};
-pub use intend::{intend_to_allocate, intend_to_deallocate};
+pub use intend::{allocate, deallocate, intend_to_allocate, intend_to_deallocate};
 pub use laws::{
     clearing_keeps_what_counts, commit_changes_one_object, create_adds_one_object,
     data_store_changes_one_block, intentions_keep_what_counts, lost_map_is_given_back,

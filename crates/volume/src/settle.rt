@@ -6,7 +6,7 @@ ghost use Rattle.volume.specs.Committing.{marked};
 ghost use Rattle.volume.specs.Settling.{settled, cleared};
 ghost use Rattle.volume.specs.Tables.{root_slot, table_entries};
 
-use map::{DataState, Entry, RootState, split};
+use map::{DataState, Entry, RootState, is_root_place, split};
 
 // Where the entry of a root place stands in the table.
 pub(crate) fn root_slot(r: u32) -> usize
@@ -21,8 +21,7 @@ pub(crate) fn root_slot(r: u32) -> usize
 fn root_entry(roots: &[Entry; 256], r: u32) -> Entry
     ensures { result ≡ table_entries roots.now r }
 {
-    let (_, sector) = split(r);
-    if !(1..=4).contains(&sector) {
+    if !is_root_place(r) {
         return Entry::Free;
     }
     roots.get(root_slot(r)).copied().unwrap_or(Entry::Free)
@@ -134,33 +133,20 @@ pub fn clear_entry(entry: Entry) -> Entry
 }
 
 /// The entry with its commit bit set, if it is that of a root place.
-pub fn with_commit_bit(entry: Entry) -> Entry
+pub fn with_commit_bit(mut entry: Entry) -> Entry
     ensures { result ≡ marked entry }
 {
-    match entry {
-        Entry::Root {
-            state,
-            kind,
-            tag,
-            ..
-        } => {
-            let commit = true;
-            Entry::Root {
-                state,
-                kind,
-                commit,
-                tag,
-            }
-        }
-        other => other,
+    if let Entry::Root { commit, .. } = &mut entry {
+        *commit = true;
     }
+    entry
 }
 
 /// Settles a map, given the root entries of the volume.
 pub fn settle_map(entries: &mut [Entry; 32], roots: &[Entry; 256])
     ensures { entries.new ≡ map (settled (table_entries roots.now)) entries.old }
 {
-    // Kept as a loop over the decoded entries, settling each: the named form.
+    // Entry by entry, as the rule is told: a closure for the one line would hide which rule it is.
     for slot in entries.iter_mut() {
         *slot = settle_entry(*slot, roots);
     }
@@ -177,7 +163,7 @@ pub fn map_has_commit_bit(entries: &[Entry; 32]) -> bool
 pub fn clear_map(entries: &mut [Entry; 32])
     ensures { entries.new ≡ map cleared entries.old }
 {
-    // Kept as a loop over the decoded entries: the named form.
+    // Entry by entry, as above.
     for slot in entries.iter_mut() {
         *slot = clear_entry(*slot);
     }

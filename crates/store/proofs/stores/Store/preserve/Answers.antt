@@ -10,14 +10,14 @@ use Rattle.store.specs.declared.refusals.Refusal.TheVariants as refusal
 use Rattle.store.proofs.stores.Store.preserve.Goals as goal
 
 pub returns : goal.returns
-returns g c steady =
+returns g c =
     let see = seen g.D.Device in
     let m = see c.args.self.now in
     let e = c.in_ok-entry.entry in
     let object = c.in_ok-index.index in
     let kept = c.in_ok-kept.kept in
     let admit = c.in_ok-admit.ensures in
-    let ready = ready_when m asked.Idle steady admit in
+    let ready = ready_when m asked.Idle c.args.self.now.steady admit in
     let r = c.set_entry.result in
     let end = see c.set_entry.new.self in
     let index = looked (λ all. indexed all c.args.index) m m (see c.index.new.self) c.index.result ready refl c.index.ensures in

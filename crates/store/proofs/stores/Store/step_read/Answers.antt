@@ -9,7 +9,7 @@ use Rattle.store.specs.Runs.{capped}
 use Rattle.store.proofs.stores.Store.step_read.Goals as goal
 
 pub returns-in-Ok : goal.returns-in-Ok
-returns-in-Ok g c steady =
+returns-in-Ok g c =
     let m = seen g.D.Device c.args.self.now in
     let name = c.args.object in
     let offset = c.args.offset in
@@ -20,6 +20,6 @@ returns-in-Ok g c steady =
     let kept : length buffer ≡ words.len = c.read.auto.buffer ∙ c.as_mut_slice.ensures.len in
     record {
       result = Ok tt;
-      follows = subst (λ n. Follows (read_rule name offset n m) m (Ok tt) (seen g.D.Device c.read.new.self)) long (read.rule steady);
-      shown = (with_items words buffer, refl, with_items_is words buffer kept ∙ read.buffer steady ∙ ap (λ n. words_of_found m.blocks offset n (named m.blocks name)) long);
+      follows = subst (λ n. Follows (read_rule name offset n m) m (Ok tt) (seen g.D.Device c.read.new.self)) long read.rule;
+      shown = (with_items words buffer, refl, with_items_is words buffer kept ∙ read.buffer ∙ ap (λ n. words_of_found m.blocks offset n (named m.blocks name)) long);
     }
