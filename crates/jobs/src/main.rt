@@ -52,6 +52,10 @@ impl Script {
             Line::Empty => Ok(()),
             Line::Drive(size) => self.session.drive(size, rt.alloc()),
             Line::Cut(cut) => self.session.cut(cut),
+            // refused before the flush: a line that is not understood prints nothing by itself
+            Line::Dump(_) if matches!(self.session, Session::NoDrive) => {
+                Err(LineError::NotUnderstood)
+            }
             Line::Dump(block) => {
                 self.flush(rt).map_err(LineError::Failed)?;
                 let look = self.session.look(block)?;
@@ -73,8 +77,9 @@ fn main(rt: HostRuntime) -> anyhow::Result<()> {
         session: Session::NoDrive,
         due: Vec::new(rt.alloc()),
     };
-    // the empty line after the last line end says nothing
-    for (line, number) in text.split(|b| *b == b'\n').zip(1usize..) {
+    // an empty line says nothing, nor does the one after the last line end
+    let lines = text.split(|b| *b == b'\n').zip(1usize..);
+    for (line, number) in lines.filter(|(line, _)| !line.is_empty()) {
         match script.take(&rt, line) {
             Ok(()) => {}
             Err(LineError::NotUnderstood) => script.due.push(Due::NotUnderstood(number))?,

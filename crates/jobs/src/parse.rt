@@ -122,10 +122,10 @@ fn numbered(heap: Global, verb: &[u8], numbers: &[u64]) -> Result<Line, LineErro
             first,
             words: staged(heap, words)?,
         })),
-        _ => index_call(verb, numbers)
-            .or_else(|| ticket_call(verb, numbers))
-            .map(Line::Call)
-            .ok_or(LineError::NotUnderstood),
+        _ => {
+            let call = index_call(verb, numbers).or_else(|| ticket_call(verb, numbers));
+            Ok(Line::Call(call.ok_or(LineError::NotUnderstood)?))
+        }
     }
 }
 

@@ -15,6 +15,9 @@ still_ready {blocks} {blocks'} {lit} {lit'} {plan} {n} {cylinders} ready whole =
     let long : length blocks' ≡ 32 * cylinders = ap length whole.after ∙ wrote_length blocks plan ∙ ready.long in
     record { on = whole.on; long = omega arith; some = omega (arith, ready.some); few = omega (arith, ready.few) }
 
+pub ready_cylinders : {blocks : List Block} {lit : Bool} {cylinders : ℕ} → Ready blocks lit cylinders → cylinders_of blocks ≡ cylinders
+ready_cylinders {blocks} {lit} {cylinders} ready = ap (λ n. n / 32) ready.long ∙ omega arith
+
 -- nothing stored yet
 pub none_stored : {blocks : List Block} {lit : Bool} {cylinders : ℕ} → Ready blocks lit cylinders → Whole blocks [] 0 blocks lit
 none_stored ready = record { counted = refl; after = refl; on = ready.on }

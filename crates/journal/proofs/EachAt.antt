@@ -69,7 +69,7 @@ module _ (t : ℕ → Entry → Bool) where
   any_push a (x ∷ es) e =
       ap (λ r. t a x || r) (any_push (a + 1) es e ∙ ap (λ b. any_at t (a + 1) es || t b e) (omega arith)) ∙ sym (or_assoc (t a x) (any_at t (a + 1) es) (t (a + length (x ∷ es)) e))
 
-  any_more : (a i : ℕ) (es : List Entry) → i < length es → any_at t a (take (i + 1) es) ≡ (any_at t a (take i es) || t (a + i) (get_or es i Map))
+  pub any_more : (a i : ℕ) (es : List Entry) → i < length es → any_at t a (take (i + 1) es) ≡ (any_at t a (take i es) || t (a + i) (get_or es i Map))
   any_more a i es h =
       ap (any_at t a) (take_more es i Map h) ∙ any_push a (take i es) (get_or es i Map)
       ∙ ap (λ n. any_at t a (take i es) || t (a + n) (get_or es i Map)) (length-take-le i es (omega arith))

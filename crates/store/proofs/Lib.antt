@@ -3,3 +3,4 @@ pub mod Following
 pub mod NewObjects
 pub mod Playing
 pub mod Steadiness
+pub mod Stepping

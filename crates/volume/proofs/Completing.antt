@@ -32,6 +32,9 @@ module _ (blocks : List Block) (E : Entries) (n : ℕ) (usable : Usable blocks) 
 
 -- a complete volume, by its own maps
 module _ (blocks : List Block) (complete : Complete blocks) where
+  pub well_counted : CountsWell blocks (entry_at blocks) (32 * cylinders_of blocks)
+  well_counted = record { single = complete.single; indexes = complete.indexes; root_index = complete.root_index }
+
   pub shows_own : (r : ℕ) → counted blocks r ≡ object_of (λ p. content blocks (counted_at (entry_at blocks) (32 * cylinders_of blocks) r p)) (remains_as (entry_at blocks r))
   shows_own = shows_by blocks (entry_at blocks) (32 * cylinders_of blocks) complete.usable refl refl
 
