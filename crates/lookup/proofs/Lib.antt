@@ -2,4 +2,3 @@ pub mod Filling
 pub mod Past
 pub mod ReadingOn
 pub mod StagedWords
-pub mod Zeros

@@ -1,19 +1,28 @@
 // Reading the words of an object.
 ghost use Rattle.std.specs.Prelude.{◌≡◌, ℕ, ◌+◌, ◌*◌, ◌<◌, ◌≤◌, true, length, Ok, slice_index};
 ghost use Rattle.lookup.specs.Reading.{position_bytes, position_words, has_word, Filled, unreadable_in, words_read};
+ghost use Rattle.object.specs.Roots.{zeros};
 
 use device::{Device, PowerCut};
 use journal::load;
 use object::words_of_block;
+
+// A position without a block.
+#[tactic(auto, unfolding(object::specs::Roots::zeros))]
+fn zero_block() -> [u8; 512]
+    ensures { result ≡ zeros }
+{
+    [0; 512]
+}
 
 /// The bytes of the block at address `a`; zeros if `a` is 0 or the block cannot be read.
 pub fn position_bytes<D: Device>(device: &D, a: u16) -> Result<[u8; 512], PowerCut>
     ensures { D.lit device.now ≡ true → result ≡ Ok (position_bytes (D.blocks device.now) a) }
 {
     if a == 0 {
-        return Ok([0; 512]);
+        return Ok(zero_block());
     }
-    Ok(load(device, usize::from(a))?.unwrap_or([0; 512]))
+    Ok(load(device, usize::from(a))?.unwrap_or_else(zero_block))
 }
 
 /// The words of a position whose block is at address `a`: zeros if `a` is 0, none if the block

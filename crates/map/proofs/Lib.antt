@@ -1,2 +1,3 @@
+mod Decoding
 mod Entries
 pub mod OldDecoding

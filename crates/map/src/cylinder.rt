@@ -24,6 +24,7 @@ fn decode_sector(block: &[u8; 512], s: usize, cylinder: u8, cylinders: u8) -> Op
 
 /// The entries of a cylinder's map, sector by sector, in a volume of so many cylinders, if the
 /// bytes are well formed.
+#[tactic(auto, using(crate::proofs::Decoding::decoding))]
 pub fn decode_map(block: &[u8; 512], cylinder: u8, cylinders: u8) -> Option<[Entry; 32]>
     ensures { result ≡ decoded_map cylinders cylinder block.now }
 {

@@ -96,8 +96,8 @@ fn judge<D: Device>(device: &D, old: &Job, new: &Job) -> Outcome
     }
     match load(device, 0) {
         None => Outcome::PartUnreadable,
-        Some(job) if job == *old => Outcome::Old,
-        Some(job) if job == *new => Outcome::New,
+        Some(job) if job.same(old) => Outcome::Old,
+        Some(job) if job.same(new) => Outcome::New,
         Some(_) => Outcome::Mixed,
     }
 }

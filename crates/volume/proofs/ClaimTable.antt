@@ -1,7 +1,5 @@
 -- Why each slot of the table of claims has the lowest block that counts for it.
 use Rattle.std.proofs.Common.{◌≡◌, ℕ, zero, suc, ◌+◌, ◌*◌, ◌<◌, ◌≤◌, Bool, true, false, cond, not, ◌&&◌, eqb, leb, ◌≢◌, List, length, get_or, drop, set, Some, None, Option, sym, refl, ap, ◌∙◌, subst, ap₂, ⊎_elim, arith}
-use Rattle.std.specs.Bool.{then_some}
-use Rattle.std.specs.Option.{option_or}
 use Rattle.std.proofs.lemmas.List.{length-set, get_or-set_same, get_or-set_other, get_or-replicate, at_drop_more, at_drop_all}
 use Rattle.std.proofs.lemmas.Bool.{and_parts, and_from, leb-true, eq-eqb, ne_eqb, cases_eq, cases_Bool, true≢false}
 use Rattle.map.specs.Addresses.{sector_of, root_place}
@@ -153,7 +151,7 @@ module _ (E : Entries) (a i : ℕ) (entries : List Entry) (table : List ℕ) (wi
       ∙ ap (λ b. cond (doubled E (get_or entries i Map) table) (Some (a + i)) (first_doubled E b (drop (i + 1) entries) (claimed E (a + i) (get_or entries i Map) table))) (omega arith)
 
 -- the first that was found, or this one, or the first of the rest
-pub first_of_all : (first : Option ℕ) (twice : Bool) (b : ℕ) (rest : Option ℕ) → or_else (option_or first (then_some (not (not twice)) b)) rest ≡ or_else first (cond twice (Some b) rest)
+pub first_of_all : (first : Option ℕ) (twice : Bool) (b : ℕ) (rest : Option ℕ) → or_else (or_else first (cond (not twice) None (Some b))) rest ≡ or_else first (cond twice (Some b) rest)
 first_of_all None true b rest = refl
 first_of_all None false b rest = refl
 first_of_all (Some c) twice b rest = refl

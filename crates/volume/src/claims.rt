@@ -1,6 +1,7 @@
 // The table of claims: for each root place and position the lowest block that counts for it.
-ghost use Rattle.std.specs.Prelude.{◌≡◌, ◌*◌, not};
+ghost use Rattle.std.specs.Prelude.{◌≡◌, ◌*◌, not, if◌then◌else◌, Some, None};
 ghost use Rattle.volume.specs.ClaimTable.{claim_slot, doubled, claimed, claimed_from, first_doubled, TableLaw};
+ghost use Rattle.volume.specs.Search.{or_else};
 ghost use Rattle.volume.specs.Tables.{table_entries};
 
 use crate::settle::{entry_counts, root_slot};
@@ -58,9 +59,16 @@ pub fn claim_map(
     for (s, held) in entries.iter().enumerate() {
         let a = join(cylinder, s as u8);
         let fresh = claim_entry(table, a, *held, roots);
-        first = first.or((!fresh).then_some(a));
+        first = first_of(first, fresh, a);
     }
     first
+}
+
+// The first address that was not fresh.
+fn first_of(first: Option<u16>, fresh: bool, a: u16) -> Option<u16>
+    ensures { result ≡ or_else first (if fresh then None else Some a) }
+{
+    first.or((!fresh).then_some(a))
 }
 
 /// With every entry that fits, each slot has the lowest block that counts for it.

@@ -1,6 +1,4 @@
-use Rattle.std.proofs.Common.{◌≡◌, ◌+◌, ◌*◌, ◌<◌, ◌≤◌, not, length, get_or, drop, sym, ap, ◌∙◌, ap₂, arith}
-use Rattle.std.specs.Bool.{then_some}
-use Rattle.std.specs.Option.{option_or}
+use Rattle.std.proofs.Common.{◌≡◌, ◌+◌, ◌*◌, ◌<◌, ◌≤◌, cond, not, length, get_or, drop, Some, None, sym, ap, ◌∙◌, ap₂, arith}
 use Rattle.map.specs.declared.entry.Entry.TheVariants.{Map}
 use Rattle.volume.specs.ClaimTable.{doubled, claimed, claimed_from, first_doubled}
 use Rattle.volume.specs.Search.{or_else}
@@ -23,8 +21,8 @@ loop-s-preserved c =
     let after : c.claim_entry-fresh.new.table ≡ claimed E (start + s) e table =
     c.claim_entry-fresh.ensures.after ∙ ap (λ b. claimed E b e table) here in
     let rest = first_doubled E (start + (s + 1)) next (claimed E (start + s) e table) in
-    let found : c.or-first.result ≡ option_or first (then_some (not (not (doubled E e table))) (start + s)) =
-    c.or-first.ensures ∙ ap (option_or first) (c.then_some.ensures ∙ ap₂ (λ t b. then_some (not t) b) c.claim_entry-fresh.ensures.value here) in (
+    let found : c.first_of-first.result ≡ or_else first (cond (not (doubled E e table)) None (Some (start + s))) =
+    c.first_of-first.ensures ∙ ap₂ (λ t b. or_else first (cond t None (Some b))) c.claim_entry-fresh.ensures.value here in (
       ap (claimed_from E (start + (s + 1)) next) after ∙ sym (more_claimed E start s entries table within) ∙ c.loop-s.invariant.0,
       ap₂ or_else found (ap (first_doubled E (start + (s + 1)) next) after)
           ∙ first_of_all first (doubled E e table) (start + s) rest
